@@ -1,0 +1,5 @@
+pub mod Words
+pub mod Headers
+pub mod Pieces
+pub mod Reading
+pub mod Same

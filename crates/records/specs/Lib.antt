@@ -1,0 +1,4 @@
+pub mod Words
+pub mod Align
+pub mod Fields
+pub mod Layouts
