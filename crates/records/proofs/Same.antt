@@ -1,13 +1,16 @@
 -- Records with the same fields, and bytes that are written field by field. Assumes nothing.
 use Prim.Native.Nat.{ℕ}
-use mathlib.Core.Path.{_≡_, refl, ap}
+use mathlib.Core.Path.{_≡_, refl, ap, _∙_}
 use mathlib.Core.List.{List, [], _∷_, _++_}
 use lib.ListN.{getD}
 use lib.IntN.{ℤ}
-use mir.Val.{ofZ}
+use mir.Val.{ofZ, toZ}
+use mir.Facts.{fits-ofZ}
+use Rattle.std.proofs.shelf.Signed.{toZ-ofZ}
+use Rattle.records.proofs.Words.{half-back, word-back}
 use mir.Syntax.{w32}
 use Rattle.records.specs.Words.{bytes2, bytes4}
-use Rattle.records.specs.Fields.{ifinfomsgBytes, tcmsgBytes}
+use Rattle.records.specs.Fields.{ifinfomsgBytes, ifinfomsgOf, IfinfomsgFits, tcmsgBytes, tcmsgOf, TcmsgFits}
 use Rattle.records.specs.declared.nlmsghdr.Nlmsghdr.{Nlmsghdr}
 use Rattle.records.specs.declared.ifinfomsg.Ifinfomsg.{Ifinfomsg}
 use Rattle.records.specs.declared.tcmsg.Tcmsg.{Tcmsg}
@@ -41,3 +44,14 @@ pub tcmsg-made : (x : Tcmsg) (vs bs qs is hs ps ns last r : List ℕ) → vs ≡
     ∷ getD ps 0 0 ∷ getD ps 1 0 ∷ getD ps 2 0 ∷ getD ps 3 0 ∷ getD ns 0 0 ∷ getD ns 1 0 ∷ getD ns 2 0 ∷ getD ns 3 0 ∷ [] →
     last ++ r ≡ tcmsgBytes x ++ r
 tcmsg-made x vs bs qs is hs ps ns last r a b q i h p n l = rw (l, a, b, q, i, h, p, n)
+
+-- a record behind which other bytes follow is read back
+pub ifinfomsg-back : (x : Ifinfomsg) (r : List ℕ) → IfinfomsgFits x → ifinfomsgOf (ifinfomsgBytes x ++ r) ≡ x
+ifinfomsg-back x r f =
+    same-ifinfomsg (half-back (x .kind) (f .2)) (ap (toZ w32) (word-back (ofZ w32 (x .index)) (fits-ofZ (f .3) .fits)) ∙ toZ-ofZ w32 (x .index) (f .3))
+    (word-back (x .flags) (f .4)) (word-back (x .change) (f .5))
+
+pub tcmsg-back : (x : Tcmsg) (r : List ℕ) → TcmsgFits x → tcmsgOf (tcmsgBytes x ++ r) ≡ x
+tcmsg-back x r f =
+    same-tcmsg (half-back (x .pad2) (f .2)) (ap (toZ w32) (word-back (ofZ w32 (x .ifindex)) (fits-ofZ (f .3) .fits)) ∙ toZ-ofZ w32 (x .ifindex) (f .3))
+    (word-back (x .handle) (f .4)) (word-back (x .parent) (f .5)) (word-back (x .info) (f .6))

@@ -1,0 +1,10 @@
+pub mod Putting
+pub mod Naming
+pub mod Built
+pub mod Rows
+pub mod Messages
+pub mod Filters
+pub mod Plain
+pub mod Standing
+pub mod Placing
+pub mod Finding

@@ -1,0 +1,12 @@
+pub mod Handles
+pub mod Modes
+pub mod Asks
+pub mod Table
+pub mod Bytes
+pub mod Refusals
+pub mod Stands
+pub mod Writing
+pub mod Builders
+pub mod Operations
+pub mod Back
+pub mod Places
