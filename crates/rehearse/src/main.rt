@@ -1,9 +1,13 @@
-// Rehearses requests: reads a script, writes each request that it asks for, and shows the bytes.
+// Rehearses requests and replies: reads a script, writes each request that it asks for and shows the bytes, and reads each recorded
+// reply and shows what it says.
 mod dissect;
+mod recorded;
 mod script;
 mod show;
 mod trial;
+mod verdict;
 
+use recorded::Recorded;
 use script::Command;
 use script::Misread;
 use script::MisreadDisplay;
@@ -35,6 +39,7 @@ impl<'a> From<io::Error> for Stop<'a> as StopFromError {
 #[derive(Clone, Copy)]
 struct Tally {
     written: u64,
+    read: u64,
     refused: u64,
     not_understood: u64,
 }
@@ -42,6 +47,7 @@ struct Tally {
 impl Tally {
     const NONE: Tally = Tally {
         written: 0,
+        read: 0,
         refused: 0,
         not_understood: 0,
     };
@@ -49,6 +55,7 @@ impl Tally {
     fn count(&mut self, outcome: Outcome) {
         match outcome {
             Outcome::Written => self.written = self.written.saturating_add(1),
+            Outcome::Read => self.read = self.read.saturating_add(1),
             Outcome::Refused => self.refused = self.refused.saturating_add(1),
             Outcome::NotUnderstood => self.not_understood = self.not_understood.saturating_add(1),
         }
@@ -57,17 +64,22 @@ impl Tally {
     fn show(&self, rt: &LibcRuntime) -> io::Result<()> {
         let Tally {
             written,
+            read,
             refused,
             not_understood,
         } = *self;
         println!(
             rt,
-            "requests written: {written}, refused: {refused}; lines not understood: {not_understood}"
+            "requests written: {written}; replies read: {read}; refused: {refused}; lines not understood: {not_understood}"
         )
     }
 }
 
 fn perform<'a>(rt: &LibcRuntime, line: &'a str) -> Result<Outcome, Stop<'a>> {
+    if let Some(words) = line.strip_prefix("reply ") {
+        let recorded = Recorded::parse(rt.alloc(), words)?;
+        return Ok(recorded.play(rt)?);
+    }
     let command = Command::parse(line)?;
     let name = command.name(rt.alloc())?;
     let request = command.request(name.as_slice())?;
@@ -81,7 +93,7 @@ fn rehearse(rt: &LibcRuntime, number: u64, line: &str) -> io::Result<Option<Outc
         return Ok(None);
     }
     if line.starts_with('#') {
-        println!(rt, "{line}\n")?;
+        println!(rt, "{line}")?;
         return Ok(None);
     }
     println!(rt, "line {number}: {}", Echo(line))?;

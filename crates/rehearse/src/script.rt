@@ -187,16 +187,21 @@ pub(crate) enum Misread<'a> {
     Missing(Verb, Word),
     // no program where one is needed
     NoProgram(Verb),
+    // of a recorded reply: what it answers, its name, its datagrams
+    UnknownReply(&'a str),
+    NoReply,
+    NoName,
+    Datagram(&'a str),
     NoMemory,
 }
 
-impl From<AllocError> for Misread<'_> as MisreadFromAllocError {
+pub(crate) impl From<AllocError> for Misread<'_> as MisreadFromAllocError {
     fn from(_e: AllocError) -> Self {
         Misread::NoMemory
     }
 }
 
-impl<T: Drop> From<Refused<T>> for Misread<'_> as MisreadFromRefused {
+pub(crate) impl<T: Drop> From<Refused<T>> for Misread<'_> as MisreadFromRefused {
     fn from(_e: Refused<T>) -> Self {
         Misread::NoMemory
     }
@@ -241,6 +246,25 @@ pub(crate) impl fmt::Display for Misread<'_> as MisreadDisplay {
             Misread::Missing(verb, word) => write!(f, "{verb} needs the word {}", word.choices()),
             Misread::NoProgram(verb) => {
                 write!(f, "{verb} needs a program: fd none goes with xdp alone")
+            }
+            Misread::UnknownReply(token) => {
+                write!(
+                    f,
+                    "a reply is an acknowledgement, an echo or a listing, not {}",
+                    Brief(token.as_bytes())
+                )
+            }
+            Misread::NoReply => write!(
+                f,
+                "reply needs what it answers, and its datagrams in hexadecimal"
+            ),
+            Misread::NoName => write!(f, "reply listing needs the name that is looked for"),
+            Misread::Datagram(token) => {
+                write!(
+                    f,
+                    "{} is no datagram in hexadecimal",
+                    Brief(token.as_bytes())
+                )
             }
             Misread::NoMemory => write!(f, "there is no memory for it"),
         }
@@ -342,7 +366,7 @@ enum Name<'a> {
     Hex(&'a str),
 }
 
-fn hex_bytes<'a>(heap: Global, text: &'a str) -> Result<Vec<u8>, Misread<'a>> {
+pub(crate) fn hex_bytes<'a>(heap: Global, text: &'a str) -> Result<Vec<u8>, Misread<'a>> {
     let mut bytes = Vec::new(heap);
     for pair in text.as_bytes().chunks(2) {
         let Some(byte) = hex_pair(pair) else {

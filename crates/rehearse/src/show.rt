@@ -141,9 +141,9 @@ impl fmt::Display for Hex<'_> as HexDisplay {
 
 // Bytes as text, each that is no printable ASCII as \xNN.
 #[derive(Clone, Copy)]
-struct Readable<'a>(&'a [u8]);
+pub(crate) struct Readable<'a>(pub(crate) &'a [u8]);
 
-impl fmt::Display for Readable<'_> as ReadableDisplay {
+pub(crate) impl fmt::Display for Readable<'_> as ReadableDisplay {
     fn fmt<W: fmt::Write>(&self, f: &mut fmt::Formatter<W>) -> fmt::Result {
         for byte in self.0.iter() {
             match *byte {
@@ -186,9 +186,9 @@ pub(crate) impl fmt::Display for Echo<'_> as EchoDisplay {
 
 // A handle as `tc` writes it.
 #[derive(Clone, Copy)]
-struct Handle(TcHandle);
+pub(crate) struct Handle(pub(crate) TcHandle);
 
-impl fmt::Display for Handle as HandleDisplay {
+pub(crate) impl fmt::Display for Handle as HandleDisplay {
     fn fmt<W: fmt::Write>(&self, f: &mut fmt::Formatter<W>) -> fmt::Result {
         let major = self.0.major();
         let minor = self.0.minor();

@@ -24,6 +24,8 @@ const PATTERN: u8 = 0xa5;
 #[derive(Clone, Copy)]
 pub(crate) enum Outcome {
     Written,
+    // a recorded reply was read to its end
+    Read,
     Refused,
     NotUnderstood,
 }

@@ -1,7 +1,11 @@
-// Requests against what the Rust module sends: every expected text below was printed by aya 0.16.0's own code over a scripted
-// socket, and none by this repository.
+// Requests against what the Rust module sends: every expected text of `sends` was printed by aya 0.16.0's own code over a scripted
+// socket, and none by this repository. And the edges of a row of attributes.
 #[cfg(test)]
 mod tests {
+    use reader::fault::AttributeFault;
+    use reader::fault::AttributeFaultDebug;
+    use reader::fault::AttributeFaultPartialEq;
+    use reader::row::NlAttrs;
     use requests::fault::ArgumentFault;
     use requests::fault::ArgumentFaultDebug;
     use requests::fault::ArgumentFaultPartialEq;
@@ -55,6 +59,23 @@ mod tests {
         Request::List { interface, parent }
     }
 
+    // An attach that leaves its priority and handle to the other end.
+    fn attach<'a>(name: &'a [u8], class: Option<TcHandle>) -> Request<'a> {
+        Request::Attach(
+            Key {
+                interface: 2,
+                parent: TcHandle::of_bits(0xfffffff2),
+                priority: 0,
+                handle: TcHandle::of_bits(0),
+            },
+            Program {
+                descriptor: 7,
+                name,
+                class,
+            },
+        )
+    }
+
     // Writes a request, and compares it with what the Rust sends; then reads it back, and writes it again.
     fn sends(heap: Global, request: Request<'_>, expected: &str) -> Result<(), Fail> {
         let mut out = [0xa5u8; 512];
@@ -74,70 +95,22 @@ mod tests {
         let heap = rt.alloc();
         sends(
             heap,
-            Request::Attach(
-                Key {
-                    interface: 2,
-                    parent: TcHandle::of_bits(0xfffffff2),
-                    priority: 0,
-                    handle: TcHandle::of_bits(0x00000000),
-                },
-                Program {
-                    descriptor: 7,
-                    name: b"order",
-                    class: None,
-                },
-            ),
+            attach(b"order", None),
             "4c0000002c000d060100000000000000000000000200000000000000f2ffffff0003000008000100627066002000028008000600070000000a0007006f726465720000000800080001000000",
         )?;
         sends(
             heap,
-            Request::Attach(
-                Key {
-                    interface: 2,
-                    parent: TcHandle::of_bits(0xfffffff2),
-                    priority: 0,
-                    handle: TcHandle::of_bits(0x00000000),
-                },
-                Program {
-                    descriptor: 7,
-                    name: b"order",
-                    class: Some(TcHandle::of_bits(0x00010001)),
-                },
-            ),
+            attach(b"order", Some(TcHandle::of_bits(0x00010001))),
             "540000002c000d060100000000000000000000000200000000000000f2ffffff00030000080001006270660028000280080003000100010008000600070000000a0007006f726465720000000800080001000000",
         )?;
         sends(
             heap,
-            Request::Attach(
-                Key {
-                    interface: 2,
-                    parent: TcHandle::of_bits(0xfffffff2),
-                    priority: 0,
-                    handle: TcHandle::of_bits(0x00000000),
-                },
-                Program {
-                    descriptor: 7,
-                    name: b"",
-                    class: None,
-                },
-            ),
+            attach(b"", None),
             "480000002c000d060100000000000000000000000200000000000000f2ffffff0003000008000100627066001c000280080006000700000005000700000000000800080001000000",
         )?;
         sends(
             heap,
-            Request::Attach(
-                Key {
-                    interface: 2,
-                    parent: TcHandle::of_bits(0xfffffff2),
-                    priority: 0,
-                    handle: TcHandle::of_bits(0x00000000),
-                },
-                Program {
-                    descriptor: 7,
-                    name: b"xxx",
-                    class: None,
-                },
-            ),
+            attach(b"xxx", None),
             "480000002c000d060100000000000000000000000200000000000000f2ffffff0003000008000100627066001c000280080006000700000008000700787878000800080001000000",
         )?;
         Ok(())
@@ -148,19 +121,7 @@ mod tests {
         let heap = rt.alloc();
         sends(
             heap,
-            Request::Attach(
-                Key {
-                    interface: 2,
-                    parent: TcHandle::of_bits(0xfffffff2),
-                    priority: 0,
-                    handle: TcHandle::of_bits(0x00000000),
-                },
-                Program {
-                    descriptor: 7,
-                    name: b"xxxx",
-                    class: None,
-                },
-            ),
+            attach(b"xxxx", None),
             "4c0000002c000d060100000000000000000000000200000000000000f2ffffff0003000008000100627066002000028008000600070000000900070078787878000000000800080001000000",
         )?;
         sends(
@@ -188,19 +149,7 @@ mod tests {
         let heap = rt.alloc();
         sends(
             heap,
-            Request::Attach(
-                Key {
-                    interface: 2,
-                    parent: TcHandle::of_bits(0xfffffff2),
-                    priority: 0,
-                    handle: TcHandle::of_bits(0x00000000),
-                },
-                Program {
-                    descriptor: 7,
-                    name: &[110; 256],
-                    class: Some(TcHandle::of_bits(0x00010001)),
-                },
-            ),
+            attach(&[110; 256], Some(TcHandle::of_bits(0x00010001))),
             "500100002c000d060100000000000000000000000200000000000000f2ffffff0003000008000100627066002401028008000300010001000800060007000000050107006e6e6e6e6e6e6e6e6e6e6e6e6e6e6e6e6e6e6e6e6e6e6e6e6e6e6e6e6e6e6e6e6e6e6e6e6e6e6e6e6e6e6e6e6e6e6e6e6e6e6e6e6e6e6e6e6e6e6e6e6e6e6e6e6e6e6e6e6e6e6e6e6e6e6e6e6e6e6e6e6e6e6e6e6e6e6e6e6e6e6e6e6e6e6e6e6e6e6e6e6e6e6e6e6e6e6e6e6e6e6e6e6e6e6e6e6e6e6e6e6e6e6e6e6e6e6e6e6e6e6e6e6e6e6e6e6e6e6e6e6e6e6e6e6e6e6e6e6e6e6e6e6e6e6e6e6e6e6e6e6e6e6e6e6e6e6e6e6e6e6e6e6e6e6e6e6e6e6e6e6e6e6e6e6e6e6e6e6e6e6e6e6e6e6e6e6e6e6e6e6e6e6e6e6e6e6e6e6e6e6e6e6e6e6e6e6e6e6e6e6e6e6e6e6e6e6e6e6e6e6e6e6e6e6e6e6e6e6e6e6e6e6e6e6e6e6e6e6e6e6e6e6e6e6e6e000000000800080001000000",
         )?;
         Ok(())
@@ -415,6 +364,49 @@ mod tests {
             expected: 76,
         };
         refuses(Request::Attach(KEY, order), &mut out, short)
+    }
+
+    // The first attribute of a row, by its payload.
+    fn first(row: &[u8]) -> Option<Result<&[u8], AttributeFault>> {
+        match NlAttrs::new(row).next()? {
+            Ok(attr) => Some(Ok(attr.data)),
+            Err(fault) => Some(Err(fault)),
+        }
+    }
+
+    fn reads(row: &[u8], payload: &[u8]) -> Result<(), Fail> {
+        match first(row) {
+            Some(Ok(data)) => check_eq(data, payload),
+            _ => check(false),
+        }
+    }
+
+    fn faults(row: &[u8], expected: AttributeFault, number: u8) -> Result<(), Fail> {
+        match first(row) {
+            Some(Err(fault)) => {
+                check_eq(fault, expected)?;
+                check_eq(fault.number(), number)
+            }
+            _ => check(false),
+        }
+    }
+
+    // One payload byte takes a row of 8 bytes, with its padding; a row of 5 has none, and is refused.
+    #[test]
+    fn row_edges() -> Result<(), Fail> {
+        reads(&[5, 0, 7, 0, 0x61, 0, 0, 0], b"a")?;
+        let past = AttributeFault::Past {
+            size: 1,
+            expected: 4,
+        };
+        faults(&[5, 0, 7, 0, 0x61], past, 21)?;
+        faults(&[3, 0, 7, 0], AttributeFault::Length(3), 20)?;
+        let cut = AttributeFault::Cut {
+            size: 3,
+            expected: 4,
+        };
+        faults(&[4, 0, 7], cut, 19)?;
+        check(first(&[]).is_none())
     }
 
     // The sizes: with and without a class, and the longest name.

@@ -1,0 +1,11 @@
+pub mod Pieces
+pub mod Walking
+pub mod Attributing
+pub mod Messaging
+pub mod Visiting
+pub mod Handing
+pub mod Walked
+pub mod Pushing
+pub mod Searching
+pub mod Uncutting
+pub mod Refusing

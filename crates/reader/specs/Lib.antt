@@ -1,0 +1,11 @@
+pub mod Walks
+pub mod Rows
+pub mod Datagrams
+pub mod Visits
+pub mod Names
+pub mod Classes
+pub mod Replies
+pub mod Matches
+pub mod Cuts
+pub mod Numbers
+pub mod Refused
