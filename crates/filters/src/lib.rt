@@ -1,3 +1,5 @@
+#![tactic(auto)]
+
 pub mod row;
 pub mod store;
 pub mod text;

@@ -1,3 +1,5 @@
+#![tactic(auto)]
+
 pub mod host;
 pub mod keeping;
 pub mod loss;

@@ -1,7 +1,7 @@
 -- Writing into the part of a buffer that begins at a place. Assumes nothing.
-use Rattle.std.proofs.Common.{◌≡◌, ℕ, ◌+◌, ◌-◌, ◌<◌, ◌≤◌, List, [], ◌∷◌, ◌++◌, length, take, drop, sym, refl, ap, ◌∙◌, arith}
+use Rattle.std.proofs.Common.{◌≡◌, ℕ, ◌+◌, ◌-◌, ◌≤◌, List, [], ◌++◌, length, take, drop, ap, ◌∙◌, arith}
 use borrow.Rule.Slice.PartMut.{put_mid}
-use Rattle.std.proofs.lemmas.List.{append_assoc, take_at, drop_at, append-nil, length-append, length-take, length-drop, take_rest, drop_all, drop-drop, take-append-drop}
+use Rattle.std.proofs.lemmas.List.{append_assoc, take_at, drop_at, append-nil, length-append, length-drop, take_rest, drop_all, drop-drop, take-append-drop}
 
 module _ (xs last : List ℕ) (at : ℕ) (h : at ≤ length xs) where
   rest_put : length last ≡ length xs - at → put_mid at (length xs - at) xs last ≡ take at xs ++ last

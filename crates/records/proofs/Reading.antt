@@ -1,6 +1,5 @@
 -- Any record at a place of some bytes: read, and written. Assumes nothing but the record's laws.
-use Rattle.std.proofs.Common.{◌≡◌, ℕ, ◌+◌, ◌-◌, ◌<◌, ◌≤◌, List, [], ◌∷◌, ◌++◌, length, take, drop, Some, None, Option, sym, refl, ap, ◌∙◌, arith, Bor, MatchOption}
-use borrow.Rule.Slice.PartMut.{put_mid}
+use Rattle.std.proofs.Common.{◌≡◌, ℕ, ◌+◌, ◌-◌, ◌<◌, ◌≤◌, List, ◌++◌, length, take, drop, Some, None, Option, arith, Bor, MatchOption}
 use Rattle.std.proofs.lemmas.List.{length-drop, length-take-le, take-append-drop, take_rest, take_at, drop_at}
 use Rattle.records.specs.Words.{Bytes}
 use Rattle.records.specs.WordsLemmas.{bytes_take, bytes_drop}

@@ -1,5 +1,5 @@
 -- The fields of each record in their order: how they lie in bytes, and how they are taken out again.
-use Rattle.std.specs.Prelude.{ℕ, ◌^◌, ◌<◌, List, [], ◌∷◌, ◌++◌, length, drop, Some, None, Option, FitsSigned, slice_index}
+use Rattle.std.specs.Prelude.{ℕ, ◌^◌, ◌<◌, List, ◌∷◌, ◌++◌, drop, FitsSigned, slice_index}
 use Rattle.std.proofs.Common.{to_z, of_z}
 use Rattle.std.specs.Int.{w32}
 use Rattle.records.specs.Words.{bytes2, bytes4, le2, le4}

@@ -1,6 +1,6 @@
 -- A message's header: shared by its own record and by the one that holds it. Assumes nothing.
-use Rattle.std.specs.Prelude.{◌≡◌, ℕ, ◌+◌, ◌<◌, ◌≤◌, List, length, take, drop, refl}
-use Rattle.std.proofs.Common.{sym, ap, ◌∙◌, arith}
+use Rattle.std.specs.Prelude.{◌≡◌, ℕ, List, length, take}
+use Rattle.std.proofs.Common.{arith}
 use Rattle.records.specs.Words.{Bytes}
 use Rattle.records.specs.Fields.{nlmsghdr_bytes, nlmsghdr_of}
 use Rattle.records.specs.WordsLemmas.{spelled, half_again, word_again, le2_take, le4_take}

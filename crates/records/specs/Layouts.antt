@@ -1,5 +1,5 @@
 -- The layouts of netlink(7) and rtnetlink(7): which bytes are an attribute, a row of attributes, a message, a datagram.
-use Rattle.std.specs.Prelude.{◌≡◌, ℕ, ◌+◌, ◌<◌, ◌≤◌, ◌⊎◌, List, [], ◌∷◌, ◌++◌, length, replicate}
+use Rattle.std.specs.Prelude.{◌≡◌, ℕ, ◌+◌, ◌≤◌, ◌⊎◌, List, [], ◌∷◌, ◌++◌, length, replicate}
 use Rattle.records.specs.Words.{le2, le4}
 use Rattle.records.specs.Align.{fill}
 

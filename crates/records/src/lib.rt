@@ -1,3 +1,5 @@
+#![tactic(auto)]
+
 pub mod align;
 pub mod ifinfomsg;
 pub mod nlattr;

@@ -37,7 +37,7 @@ pub trait Record: Sized {
 // Reads the record at place `at`, and hands out the bytes behind it; none where they are too few.
 // What is read is what the bytes say: written again it gives those very bytes.
 pub fn read<R: Record>(input: &[u8], at: usize) -> Option<(R, &[u8])>
-    ensures { MatchOption result (length input.now < at + wide) (λ p. fits p.0 × (p.0 ≡ of (drop at input.now)) × (input.now ≡ take at input.now ++ (bytes p.0 ++ p.1.now))) }
+    ensures { MatchOption result (length input.now < at + R.wide) (λ p. R.fits p.0 × (p.0 ≡ R.of (drop at input.now)) × (input.now ≡ take at input.now ++ (R.bytes p.0 ++ p.1.now))) }
 {
     if input.len() < at {
         return None;
@@ -48,7 +48,7 @@ pub fn read<R: Record>(input: &[u8], at: usize) -> Option<(R, &[u8])>
 // Writes a record at place `at` and says where it ends; none, and nothing written, where there is too little room.
 // Read from there it gives the same record; all other bytes stay.
 pub fn write<R: Record>(record: &R, out: &mut [u8], at: usize) -> Option<usize>
-    ensures { MatchOption result ((length out.old < at + wide) × (out.new ≡ out.old)) (λ e. (e ≡ at + wide) × (e ≤ length out.old) × fits «record».now × (out.new ≡ take at out.old ++ (bytes «record».now ++ drop (at + wide) out.old)) × (of (drop at out.new) ≡ «record».now)) }
+    ensures { MatchOption result ((length out.old < at + R.wide) × (out.new ≡ out.old)) (λ e. (e ≡ at + R.wide) × (e ≤ length out.old) × R.fits «record».now × (out.new ≡ take at out.old ++ (R.bytes «record».now ++ drop (at + R.wide) out.old)) × (R.of (drop at out.new) ≡ «record».now)) }
 {
     if out.len() < at {
         return None;

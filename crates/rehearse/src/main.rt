@@ -1,5 +1,8 @@
 // Rehearses requests and replies: reads a script, writes each request that it asks for and shows the bytes, and reads each recorded
 // reply and shows what it says.
+
+#![tactic(auto)]
+
 mod dissect;
 mod recorded;
 mod script;

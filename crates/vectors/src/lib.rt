@@ -1,5 +1,8 @@
 // Requests against what the Rust module sends: every expected text of `sends` was printed by aya 0.16.0's own code over a scripted
 // socket, and none by this repository. And the edges of a row of attributes.
+
+#![tactic(auto)]
+
 #[cfg(test)]
 mod tests {
     use reader::fault::AttributeFault;

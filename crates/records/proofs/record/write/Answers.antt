@@ -1,15 +1,15 @@
-use Rattle.std.proofs.Common.{◌≡◌, ℕ, ◌+◌, ◌≤◌, List, length, drop, ap, ◌∙◌, arith, rules}
+use Rattle.std.proofs.Common.{ℕ, ◌+◌, ◌≤◌, List, length, drop, ap, ◌∙◌, arith}
 use Rattle.records.proofs.Pieces.{rest_kept, rest_written, rest_length}
 use Rattle.records.proofs.Reading.{back_at}
 use Rattle.records.proofs.record.write.Goals as goal
 
-pub returns-in-default : goal.returns-in-default
-returns-in-default g c =
-    let e = c.in-default.ensures in
+pub returns-in_default : goal.returns-in_default
+returns-in_default g c =
+    let e = c.in_default.ensures in
     (omega (arith, e.0, rest_length c.args.out.now c.args.at), rest_kept c.args.out.now _ c.args.at c.if-out-at.false e.1)
 
-pub overflow-add-result : goal.overflow-add-result
-overflow-add-result g c =
+pub overflow_add-result : goal.overflow_add-result
+overflow_add-result g c =
     let e = c.in-Some.ensures in
     omega (arith, e.0, e.1, rest_length c.args.out.now c.args.at)
 

@@ -6,10 +6,10 @@ use Rattle.records.proofs.ifinfomsg.IfinfomsgRecord.decode.Goals as goal
 
 pub returns : goal.returns
 returns c =
-    let f : SFits w32 c.from-le-bytes-2.result = search rules in (
+    let f : SFits w32 c.from_le_bytes-2.result = search rules in (
       search rules,
-      same_ifinfomsg c.from-le-bytes.ensures (to_z-of_z w32 c.from-le-bytes-2.result f ∙ c.from-le-bytes-2.ensures) c.from-le-bytes-3.ensures
-          c.from-le-bytes-4.ensures,
+      same_ifinfomsg c.from_le_bytes.ensures (to_z-of_z w32 c.from_le_bytes-2.result f ∙ c.from_le_bytes-2.ensures) c.from_le_bytes-3.ensures
+          c.from_le_bytes-4.ensures,
       take_rest c.args.input.now 16,
       search rules,
     )

@@ -9,7 +9,7 @@ returns c =
     let f : SFits w32 c.args.self.now.index = search rules in (
       refl,
       search rules,
-      ifinfomsg_made c.args.self.now _ _ _ _ _ _ _ _ c.to-le-bytes.ensures c.to-le-bytes-2.ensures c.to-le-bytes-3.ensures (c.to-le-bytes-4.ensures ∙ ap (λ (z : ℤ). bytes4 (of_z w32 z)) (to_z-of_z w32 c.args.self.now.index f))
-          c.to-le-bytes-5.ensures c.to-le-bytes-6.ensures c.copy-from-slice.ensures.after,
+      ifinfomsg_made c.args.self.now _ _ _ _ _ _ _ _ c.to_le_bytes.ensures c.to_le_bytes-2.ensures c.to_le_bytes-3.ensures (c.to_le_bytes-4.ensures ∙ ap (λ (z : ℤ). bytes4 (of_z w32 z)) (to_z-of_z w32 c.args.self.now.index f))
+          c.to_le_bytes-5.ensures c.to_le_bytes-6.ensures c.copy_from_slice.ensures.after,
       (search rules, search rules, search rules, f, search rules, search rules),
     )

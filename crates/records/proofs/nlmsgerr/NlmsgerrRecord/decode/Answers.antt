@@ -1,4 +1,4 @@
-use Rattle.std.proofs.Common.{◌≡◌, ◌+◌, length, take, drop, ap, ◌∙◌, arith, w32, SFits, rules}
+use Rattle.std.proofs.Common.{length, ap, arith, w32, SFits, rules}
 use Rattle.std.proofs.lemmas.List.{take_rest, drop-drop, length-drop}
 use Rattle.std.proofs.lemmas.Int.{to_z-of_z}
 use Rattle.records.proofs.nlmsgerr.NlmsgerrRecord.decode.Goals as goal
@@ -6,10 +6,10 @@ use Rattle.records.proofs.nlmsgerr.NlmsgerrRecord.decode.Goals as goal
 pub returns : goal.returns
 returns c =
     let b = c.args.input.now in
-    let f : SFits w32 c.from-le-bytes-status.result = search rules in
-    let t = to_z-of_z w32 c.from-le-bytes-status.result f in
-    let u = c.from-le-bytes-status.ensures in
-    let h = c.in-ok-header.ensures in
+    let f : SFits w32 c.from_le_bytes-status.result = search rules in
+    let t = to_z-of_z w32 c.from_le_bytes-status.result f in
+    let u = c.from_le_bytes-status.ensures in
+    let h = c.in_ok-header.ensures in
     let r = take_rest b 4 in
     let h0 = h.0 in
     let h1 = h.1 in

@@ -6,7 +6,7 @@ use Rattle.records.proofs.nlmsghdr.NlmsghdrRecord.decode.Goals as goal
 pub returns : goal.returns
 returns c = (
   search rules,
-  same_nlmsghdr c.from-le-bytes.ensures c.from-le-bytes-2.ensures c.from-le-bytes-3.ensures c.from-le-bytes-4.ensures c.from-le-bytes-5.ensures,
+  same_nlmsghdr c.from_le_bytes.ensures c.from_le_bytes-2.ensures c.from_le_bytes-3.ensures c.from_le_bytes-4.ensures c.from_le_bytes-5.ensures,
   take_rest c.args.input.now 16,
   search rules,
 )
