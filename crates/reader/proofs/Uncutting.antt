@@ -1,5 +1,5 @@
 -- A listing that is cut into datagrams in two ways. Assumes nothing.
-use Rattle.std.proofs.Common.{◌≡◌, ℕ, ◌≤◌, Bool, true, false, cond, ltb, int_lt, List, [], ◌∷◌, ◌++◌, length, drop, ℤ, pos, Some, None, fold, Option, Result, sym, refl, ap, ◌∙◌, subst, arith}
+use Rattle.std.proofs.Common.{◌≡◌, ℕ, ◌≤◌, Bool, true, false, cond, ltb, int_lt, List, [], ◌∷◌, ◌++◌, length, drop, ℤ, pos, Some, None, fold, Option, Result, sym, refl, ap, ◌∙◌, arith}
 use Rattle.std.proofs.lemmas.Bool.{cond_both}
 use Rattle.std.proofs.lemmas.Bool.Decides.{nat_tests}
 use Rattle.reader.specs.Walks.{clean, whole}
@@ -12,7 +12,7 @@ use Rattle.reader.specs.declared.stage.Stage.TheVariants.{Going, Ended, Faulted}
 use Rattle.reader.specs.declared.class.Class.{Class}
 use Rattle.reader.specs.declared.class.Class.TheVariants.{Refused, Done}
 use Rattle.reader.specs.Classes.{status_of, class_of, done_by, refusal}
-use Rattle.reader.specs.Replies.{State, at, multi, last_multi, at_end, too_long, ending, step, heeded, onwards, took, reply, over}
+use Rattle.reader.specs.Replies.{State, at, last_multi, at_end, too_long, ending, step, heeded, onwards, took, reply, over}
 use Rattle.reader.specs.Cuts.{Cut, none, more, AllMulti, Listing, Uncut}
 
 folded_append : {A B : Type 0} (f : B → A → B) (a : B) (xs ys : List A) → fold f a (xs ++ ys) ≡ fold f (fold f a xs) ys

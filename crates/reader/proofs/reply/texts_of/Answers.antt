@@ -1,6 +1,4 @@
-use Rattle.std.proofs.Common.{◌≡◌, ℕ, List, sym, ap, ◌∙◌}
-use Rattle.reader.specs.Refused.{on_class}
-use Rattle.reader.specs.declared.class.Class.{Class}
+use Rattle.std.proofs.Common.{sym, ◌∙◌}
 use Rattle.reader.proofs.Messaging.{shorter}
 use Rattle.reader.proofs.Walked.{seen_ok, seen_err}
 use Rattle.reader.proofs.Refusing.{refused_step, refused_item, passes}

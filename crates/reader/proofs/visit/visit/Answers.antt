@@ -1,7 +1,6 @@
-use Rattle.std.proofs.Common.{◌≡◌, Ok, Err, sym, refl, ap, ◌∙◌}
+use Rattle.std.proofs.Common.{◌∙◌}
 use Rattle.std.proofs.lemmas.Result.{err_from_is_err_and}
 use Rattle.reader.proofs.Attributing.{shorter}
-use Rattle.reader.specs.Visits.{told}
 use Rattle.reader.proofs.Visiting.{seen_ok, seen_err, visit_more, visit_fault, visit_broken, visit_end, told_err}
 use Rattle.reader.proofs.visit.visit.Goals as goal
 

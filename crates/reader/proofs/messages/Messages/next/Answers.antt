@@ -1,4 +1,4 @@
-use Rattle.std.proofs.Common.{◌≡◌, sym, ap, ◌∙◌, rules}
+use Rattle.std.proofs.Common.{sym, ap, rules}
 use Rattle.reader.specs.Walks.{remaining}
 use Rattle.reader.proofs.Messaging.{none_left, cut_front, length_front, message_front}
 use Rattle.reader.proofs.messages.Messages.next.Goals as goal

@@ -1,4 +1,4 @@
-use Rattle.std.proofs.Common.{◌≡◌, sym, ap, ◌∙◌, rules}
+use Rattle.std.proofs.Common.{sym, ap, ◌∙◌, rules}
 use Rattle.records.specs.Align.{padded}
 use Rattle.reader.specs.Walks.{remaining}
 use Rattle.reader.proofs.Attributing.{none_left, cut_front, length_front, past_front, attr_front}

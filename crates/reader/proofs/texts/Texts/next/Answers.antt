@@ -1,4 +1,4 @@
-use Rattle.std.proofs.Common.{◌≡◌, ◌∙◌}
+use Rattle.std.proofs.Common.{◌∙◌}
 use Rattle.reader.proofs.Attributing.{shorter}
 use Rattle.reader.proofs.Visiting.{seen_ok, seen_err}
 use Rattle.reader.proofs.Handing.{texts_step, texts_item}

@@ -1,8 +1,7 @@
-use Rattle.std.proofs.Common.{◌≡◌, Ok, Err, sym, refl, ap, ◌∙◌}
+use Rattle.std.proofs.Common.{Err, sym, refl, ap, ◌∙◌}
 use Rattle.std.proofs.lemmas.Result.{err_from_is_err_and}
 use Rattle.reader.proofs.Messaging.{shorter}
 use Rattle.reader.specs.Replies.{at, closed}
-use Rattle.reader.specs.Classes.{class_of}
 use Rattle.reader.specs.Replies.{heeded}
 use Rattle.reader.proofs.Walked.{seen_ok, seen_err, walk_more, walk_end, walk_fault}
 use Rattle.reader.proofs.turn.Turn.walk.Goals as goal
