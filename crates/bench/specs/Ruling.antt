@@ -18,7 +18,7 @@ use Rattle.reader.specs.Cuts.{Cut}
 use Rattle.hosts.specs.Events.{Answer, Event, opened, sent, received, Got, datagram, failed}
 use Rattle.hosts.specs.Meaning.{Filter, bpf, In, keys, Meant}
 use Rattle.hosts.specs.Shapes.{Echoes}
-use Rattle.hosts.specs.Rules.{same_key, under, renamed, without, Chosen, asked, free, Grants, Served, refused, xdp, clsact, attached, replaced, removed, listed as listing-served, Accepts, Within, none, keep, lose, Rule}
+use Rattle.hosts.specs.Rules.{same_key, under, renamed, without, Chosen, asked, free, Grants, Served, refused, xdp, clsact, attached, replaced, removed, listed as listing_served, Accepts, Within, none, keep, lose, Rule}
 use Rattle.filters.specs.Fitting.{passes, is_filter, Stands}
 use Rattle.filters.specs.Keys.{taken, distinct, is_bpf, with_handle, lowest_free, admitted, renaming, removing}
 use Rattle.hosts.specs.Losses.{within_refl}
@@ -185,7 +185,7 @@ module _ (fs : List Filter) (q : List ℕ) (a : All Stands fs) where
   serves (remove k) w = serves_remove k
   serves (list i p) w =
       let all = all_kept_by (is_under i p) Stands fs a in
-      record { messages = map (told 2) (under i p fs) ++ (done ∷ []); effect = listing-served (listed (under i p fs) all); cut = cut_listing (under i p fs) all }
+      record { messages = map (told 2) (under i p fs) ++ (done ∷ []); effect = listing_served (listed (under i p fs) all); cut = cut_listing (under i p fs) all }
 
 -- the calls
 abbrev Kept : State → State → Type 0
