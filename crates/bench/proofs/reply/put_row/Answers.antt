@@ -1,4 +1,3 @@
-use Rattle.std.proofs.Common.{◌≡◌, ℕ, List, sym, ap, ◌∙◌, rules}
 use Rattle.queue.specs.Cuts.{joined}
 use Rattle.queue.specs.Waiting.{waiting}
 use Rattle.filters.specs.Rows.{meaning}

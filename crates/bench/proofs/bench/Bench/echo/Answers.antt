@@ -1,4 +1,4 @@
-use Rattle.std.proofs.Common.{◌≡◌, ℕ, List, [], ◌∷◌, ◌++◌, pos, ap, ◌∙◌}
+use Rattle.std.proofs.Common.{ℕ, List, [], ◌∷◌, ◌++◌, pos, ap, ◌∙◌}
 use Rattle.queue.specs.Cuts.{joined}
 use Rattle.filters.specs.Rows.{meaning}
 use Rattle.bench.specs.Replies.{told_bytes, answer_bytes}

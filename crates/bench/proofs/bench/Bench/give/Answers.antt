@@ -1,11 +1,10 @@
-use Rattle.std.proofs.Common.{◌≡◌, List, Result, sym, ap, ◌∙◌}
+use Rattle.std.proofs.Common.{sym, ap, ◌∙◌}
 use Rattle.std.specs.Option.{option_map}
 use Rattle.std.proofs.lemmas.Result.{err_from_is_err_and}
 use Rattle.requests.specs.Asks.{key_of}
 use Rattle.queue.specs.Waiting.{waiting}
 use Rattle.filters.specs.Held.{held}
 use Rattle.filters.specs.Rows.{meaning}
-use Rattle.filters.specs.Keys.{added}
 use Rattle.bench.specs.Calls.{as_key}
 use Rattle.bench.proofs.Giving.{given_key, given_filters, given_state, refused_key}
 use Rattle.bench.proofs.bench.Bench.give.Goals as goal

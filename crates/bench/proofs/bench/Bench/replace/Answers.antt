@@ -1,4 +1,4 @@
-use Rattle.std.proofs.Common.{◌≡◌, sym}
+use Rattle.std.proofs.Common.{sym}
 use Rattle.requests.specs.Asks.{key_of}
 use Rattle.filters.specs.Held.{held}
 use Rattle.filters.proofs.Finding.{held_stand}

@@ -1,4 +1,4 @@
-use Rattle.std.proofs.Common.{◌≡◌, ℕ, List, ap, ◌∙◌}
+use Rattle.std.proofs.Common.{ℕ, List, ap, ◌∙◌}
 use Rattle.queue.specs.Waiting.{waiting}
 use Rattle.bench.specs.Wholeness.{all_datagrams}
 use Rattle.bench.proofs.Giving.{whole_either}
@@ -9,6 +9,6 @@ invariant_of-self c =
     let b = c.args.self.now in
     record {
       whole =
-        ap (λ (ws : List (List ℕ)). all_datagrams ws) c.append.ensures.after
+          ap (λ (ws : List (List ℕ)). all_datagrams ws) c.append.ensures.after
           ∙ whole_either c.append.result (waiting b.queue) (waiting c.args.reply.now) b.whole c.requires;
     }

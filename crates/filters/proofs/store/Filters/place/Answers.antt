@@ -1,4 +1,4 @@
-use Rattle.std.proofs.Common.{◌≡◌, sym, arith, rules}
+use Rattle.std.proofs.Common.{sym, arith, rules}
 use Rattle.requests.specs.Asks.{key_of}
 use Rattle.filters.proofs.Finding.{key_here, key_later, key_nowhere}
 use Rattle.filters.proofs.store.Filters.place.Goals as goal

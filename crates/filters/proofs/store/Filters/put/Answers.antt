@@ -1,4 +1,4 @@
-use Rattle.std.proofs.Common.{◌≡◌, ◌<◌, true, List, length, sym, refl, ap, ◌∙◌, arith, rules}
+use Rattle.std.proofs.Common.{◌<◌, List, length, refl, ap, ◌∙◌, arith, rules}
 use Rattle.std.proofs.lemmas.List.{length-set}
 use Rattle.hosts.specs.Meaning.{Filter}
 use Rattle.filters.specs.Rows.{meaning}
@@ -20,8 +20,8 @@ invariant_of-self c =
     record {
       ok = (omega (arith, e, c.requires.0), length-set t.rows t.len c.args.row ∙ t.ok.1);
       apart =
-        ap (λ (fs : List Filter). distinct fs) (held_push meaning t.rows t.len c.args.row _ h refl)
-            ∙ distinct_append (λ (f : Filter). f.key) (held t) (meaning c.args.row) t.apart c.requires.1;
+          ap (λ (fs : List Filter). distinct fs) (held_push meaning t.rows t.len c.args.row _ h refl)
+          ∙ distinct_append (λ (f : Filter). f.key) (held t) (meaning c.args.row) t.apart c.requires.1;
     }
 
 pub returns : goal.returns

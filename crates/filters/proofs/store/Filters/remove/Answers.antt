@@ -1,4 +1,4 @@
-use Rattle.std.proofs.Common.{◌≡◌, Bool, cond, ℤ, negsuc, Ok, Err, Result, sym, ap}
+use Rattle.std.proofs.Common.{Bool, cond, ℤ, negsuc, Ok, Err, Result, sym, ap}
 use Rattle.requests.specs.Asks.{key_of}
 use Rattle.hosts.specs.Meaning.{Filter}
 use Rattle.filters.specs.Held.{held}

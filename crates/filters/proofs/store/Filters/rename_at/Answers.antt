@@ -1,4 +1,4 @@
-use Rattle.std.proofs.Common.{◌≡◌, List, refl, ap, ◌∙◌, arith, rules}
+use Rattle.std.proofs.Common.{List, refl, ap, ◌∙◌, rules}
 use Rattle.std.proofs.lemmas.List.{length-set}
 use Rattle.requests.specs.Asks.{key_of}
 use Rattle.hosts.specs.Meaning.{Filter}
@@ -50,8 +50,7 @@ bounds-self-i-2 c =
 pub invariant_of-self : goal.invariant_of-self
 invariant_of-self c =
     let t = c.args.self.now in
-    let k = key_of c.args.key in
-    (
+    let k = key_of c.args.key in (
       (t.ok.0, length-set t.rows c.args.i c.renamed-row.result ∙ t.ok.1),
       (
         ap (λ (fs : List Filter). distinct fs) (renamed_held t k c.args.i c.requires.0 _ c.renamed-row.result c.args.name.now c.requires.1.1 c.renamed-row.ensures)

@@ -1,4 +1,4 @@
-use Rattle.std.proofs.Common.{◌≡◌, ℕ, List, length, ap, ◌∙◌}
+use Rattle.std.proofs.Common.{ℕ, List, length, ap, ◌∙◌}
 use Rattle.queue.specs.Waiting.{waiting}
 use Rattle.filters.specs.Held.{held}
 use Rattle.bench.specs.Wholeness.{all_datagrams}
