@@ -1,12 +1,12 @@
 -- A reply that has room, and the effect behind it; one that has none. Assumes nothing.
-use Rattle.std.proofs.Common.{◌≡◌, ℕ, Bool, true, false, cond, List, [], ◌∷◌, ◌++◌, ℤ, pos, Some, None, Ok, Err, Option, Result, sym, refl, ap, ◌∙◌, arith}
+use Rattle.std.proofs.Common.{◌≡◌, ℕ, Bool, true, false, cond, List, [], ◌∷◌, ◌++◌, ℤ, pos, Some, None, Ok, Err, Result, sym, refl, ap, ◌∙◌, arith}
 use Rattle.requests.specs.Asks.{Key}
 use Rattle.hosts.specs.Events.{Answer}
 use Rattle.hosts.specs.Meaning.{Filter, bpf}
 use Rattle.filters.specs.Fitting.{is_filter}
 use Rattle.filters.specs.Keys.{admitted, added}
 use Rattle.bench.specs.Serving.{Outcome, echoed, granted, named, attaching}
-use Rattle.bench.specs.Calls.{State, state, fits, reply_answer, reply_after, Replied}
+use Rattle.bench.specs.Calls.{State, state, fits, Replied}
 use Rattle.bench.proofs.Giving.{made}
 
 -- o has the reply of p, and perhaps other filters

@@ -1,5 +1,5 @@
 -- A filter that is given. Assumes nothing.
-use Rattle.std.proofs.Common.{◌≡◌, ℕ, Bool, true, false, cond, List, [], ◌∷◌, ◌++◌, ℤ, negsuc, Some, None, Ok, Err, Option, Result, sym, refl, ap, ◌∙◌, arith}
+use Rattle.std.proofs.Common.{◌≡◌, ℕ, Bool, true, false, cond, List, ◌++◌, ℤ, negsuc, Some, None, Err, Option, Result, sym, refl, ap, ◌∙◌, arith}
 use Rattle.requests.specs.Asks.{Key, key_of}
 use Rattle.requests.specs.declared.request.Key.{Key as CodeKey}
 use Rattle.hosts.specs.Meaning.{Filter}

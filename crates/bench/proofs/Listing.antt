@@ -1,5 +1,5 @@
 -- A listing, filter by filter. Assumes nothing.
-use Rattle.std.proofs.Common.{◌≡◌, ℕ, ◌+◌, ◌*◌, ◌<◌, ◌≤◌, Bool, true, false, cond, List, [], ◌∷◌, ◌++◌, map, length, get_or, drop, Some, None, fold, Option, sym, refl, ap, ◌∙◌, arith}
+use Rattle.std.proofs.Common.{◌≡◌, ℕ, ◌+◌, ◌<◌, ◌≤◌, Bool, true, false, cond, List, ◌∷◌, map, length, get_or, drop, Some, None, fold, Option, sym, refl, ap, ◌∙◌, arith}
 use Rattle.std.specs.Option.{option_map}
 use Rattle.std.proofs.lemmas.List.{at_drop_more, at_drop_all}
 use Rattle.queue.specs.Cuts.{bulk, joined}
@@ -9,7 +9,7 @@ use Rattle.filters.specs.Keys.{nothing, nth}
 use Rattle.filters.specs.Rows.{meaning}
 use Rattle.filters.specs.declared.row.Row.{Row}
 use Rattle.filters.proofs.Lowest.{nth_there}
-use Rattle.bench.specs.Replies.{told_bytes, pages}
+use Rattle.bench.specs.Replies.{told_bytes}
 use Rattle.bench.specs.Serving.{is_under, listed_one}
 use Rattle.bench.specs.Paging.{told_long, joined_bulk}
 

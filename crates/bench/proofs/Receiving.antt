@@ -1,14 +1,14 @@
 -- A receive hands out the first datagram. Assumes nothing.
-use Rattle.std.proofs.Common.{◌≡◌, ℕ, ◌≤◌, Bool, true, false, cond, ◌&&◌, leb, List, [], ◌∷◌, ◌++◌, length, take, drop, pos, Some, None, Option, sym, refl, ap, ◌∙◌, arith}
+use Rattle.std.proofs.Common.{◌≡◌, ℕ, ◌≤◌, Bool, true, false, cond, leb, List, [], ◌∷◌, ◌++◌, length, take, drop, pos, Some, None, Option, sym, refl, ap, ◌∙◌, arith}
 use Rattle.std.proofs.lemmas.Bool.{le-leb, leb-true}
 use Rattle.std.proofs.lemmas.List.{take_at, length-append}
 use Rattle.queue.specs.Cuts.{fitting, behind, fronted}
-use Rattle.hosts.specs.Events.{Got, datagram, failed}
+use Rattle.hosts.specs.Events.{datagram, failed}
 use Rattle.hosts.specs.Meaning.{Filter}
 use Rattle.hosts.proofs.Keyed.{and_left, and_right}
 use Rattle.bench.specs.Wholeness.{some, is_datagram, all_datagrams}
 use Rattle.reader.specs.Datagrams.{messages}
-use Rattle.bench.specs.Calls.{State, state, first, came, rest}
+use Rattle.bench.specs.Calls.{state, came, rest}
 
 short : (d : List ℕ) (ds : List (List ℕ)) → all_datagrams (d ∷ ds) ≡ true → length d ≤ 4096
 short d ds w = leb-true (length d) 4096 (and_right (some (messages d).found (messages d).stop) _ (and_left (is_datagram d) _ w))

@@ -1,5 +1,5 @@
 -- The bytes that are written are those of the replies, and they have room. Assumes nothing.
-use Rattle.std.proofs.Common.{◌≡◌, ℕ, ◌+◌, ◌-◌, ◌≤◌, Bool, true, cond, ◌&&◌, leb, List, [], ◌∷◌, ◌++◌, length, take, drop, replicate, ℤ, None, Ok, Err, Option, Result, sym, refl, ap, ◌∙◌, arith}
+use Rattle.std.proofs.Common.{◌≡◌, ℕ, ◌+◌, ◌-◌, ◌≤◌, Bool, true, cond, leb, List, [], ◌∷◌, ◌++◌, length, take, drop, replicate, ℤ, None, Ok, Err, Option, Result, sym, ap, ◌∙◌, arith}
 use Rattle.std.proofs.lemmas.List.{take_at}
 use Rattle.std.proofs.lemmas.Bool.Decides.{nat_tests}
 use Rattle.records.specs.Fields.{nlmsghdr_of, nlmsghdr_bytes, nlmsgerr_bytes}
@@ -7,9 +7,9 @@ use Rattle.records.specs.declared.nlmsghdr.Nlmsghdr.{Nlmsghdr}
 use Rattle.records.specs.declared.nlmsgerr.Nlmsgerr.{Nlmsgerr}
 use Rattle.requests.specs.Asks.{Key}
 use Rattle.requests.specs.FilterMessages.{filter_bytes, filter_fault}
-use Rattle.requests.specs.Refusals.{room_fault, unless, first, written, buffer}
+use Rattle.requests.specs.Refusals.{room_fault, unless, written}
 use Rattle.requests.specs.declared.fault.ArgumentFault.{ArgumentFault}
-use Rattle.queue.specs.Cuts.{bulk, takes, joined}
+use Rattle.queue.specs.Cuts.{bulk, takes}
 use Rattle.hosts.specs.Meaning.{Filter}
 use Rattle.filters.specs.Fitting.{Stands}
 use Rattle.bench.specs.Replies.{told_bytes, answer_bytes, done_bytes}

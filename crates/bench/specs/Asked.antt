@@ -1,13 +1,13 @@
 -- What is known of the arguments of a request. Assumes nothing.
-use Rattle.std.specs.Prelude.{◌≡◌, ℕ, ◌≤◌, List, length, Some, None, Option, refl}
-use Rattle.std.proofs.Common.{sym, ap, subst, ◌∙◌, arith}
+use Rattle.std.specs.Prelude.{◌≡◌, ℕ, ◌≤◌, List, length, Some, None, Option}
+use Rattle.std.proofs.Common.{sym, ap, ◌∙◌, arith}
 use Rattle.requests.specs.Asks.{Key, Program, Ask, set_xdp, add_clsact, attach, replace, remove, list}
 use Rattle.requests.specs.Back.{Writes}
-use Rattle.requests.specs.Bytes.{request_bytes, request_length}
+use Rattle.requests.specs.Bytes.{request_length}
 use Rattle.requests.specs.FilterMessages.{filter_fault}
-use Rattle.requests.specs.Refusals.{argument_fault, first, interface_fault, descriptor_fault, name_fault, program_fault}
+use Rattle.requests.specs.Refusals.{argument_fault, first, interface_fault, name_fault, program_fault}
 use Rattle.requests.specs.declared.fault.ArgumentFault.{ArgumentFault}
-use Rattle.requests.proofs.Standing.{request_length, first_none, program_name}
+use Rattle.requests.proofs.Standing.{request_length_lem, first_none, program_name}
 use Rattle.hosts.specs.Meaning.{bpf}
 
 long : (x : Ask) → 16 ≤ request_length x
@@ -19,7 +19,7 @@ long (remove k) = omega arith
 long (list i p) = omega arith
 
 pub request_long : (x : Ask) (q : List ℕ) → Writes x q → 16 ≤ length q
-request_long x q w = omega (arith, ap length w.bytes, request_length x, long x)
+request_long x q w = omega (arith, ap length w.bytes, request_length_lem x, long x)
 
 pub attach_fault : (x : Ask) (k : Key) (p : Program) (q : List ℕ) → x ≡ attach k p → Writes x q → filter_fault k bpf (Some p.name) ≡ None
 unfolding argument_fault

@@ -3,7 +3,7 @@ use Rattle.std.specs.Prelude.{◌≡◌, ℕ, ◌+◌, ◌*◌, ◌%◌, ◌^◌
 use Rattle.std.proofs.Common.{sym, ap, subst, inl, inr, append_assoc, arith}
 use Rattle.std.specs.List.{AllByRecursion as All}
 use Rattle.std.proofs.lemmas.List.{append-nil, length-append}
-use Rattle.std.proofs.lemmas.Bool.{le-leb, leb-true, eq-eqb, cond_both, and_parts, and_from, or_left, or_right, not_true, both_ways}
+use Rattle.std.proofs.lemmas.Bool.{le-leb, leb-true, eq-eqb, cond_both, and_parts, and_from, or_left, or_right, not-true, both_ways}
 use Rattle.records.specs.Words.{bytes2, bytes4}
 use Rattle.records.specs.Fields.{tcmsg_bytes}
 use Rattle.records.specs.Layouts.{none, more, Message, MessageAt, Messages}
@@ -246,4 +246,4 @@ pub apart : (fs : List Filter) → distinct fs ≡ true → Apart (keys fs)
 apart [] e = tt
 apart (f ∷ fs) e =
     let p = and_parts (not (taken f.key fs)) (distinct fs) e in
-    (λ i. both_ways _ (not_true _ p.0) (in_taken f.key fs i), apart fs p.1)
+    (λ i. both_ways _ (not-true _ p.0) (in_taken f.key fs i), apart fs p.1)

@@ -1,5 +1,5 @@
 -- The messages that the bench host replies with.
-use Rattle.std.specs.Prelude.{ℕ, List, [], ◌∷◌, ℤ, fold}
+use Rattle.std.specs.Prelude.{ℕ, List, [], ℤ, fold}
 use Rattle.records.specs.Words.{bytes4}
 use Rattle.records.specs.Fields.{nlmsghdr_of, nlmsgerr_bytes}
 use Rattle.records.specs.Layouts.{Message}

@@ -1,5 +1,5 @@
 -- The bench host keeps the rules. Assumes nothing.
-use Rattle.std.specs.Prelude.{◌≡◌, ℕ, ◌+◌, ◌^◌, ◌<◌, ◌≤◌, Bool, true, false, cond, ◌&&◌, ◌||◌, ◌⊎◌, List, [], ◌∷◌, ◌++◌, map, length, drop, ℤ, pos, negsuc, Some, None, Ok, Err, Option, Result, ◌==◌, ◌≢◌, nat_le, refl}
+use Rattle.std.specs.Prelude.{◌≡◌, ℕ, ◌^◌, ◌<◌, ◌≤◌, Bool, true, false, cond, ◌&&◌, ◌||◌, List, [], ◌∷◌, ◌++◌, map, length, drop, ℤ, pos, negsuc, None, Ok, Err, Option, ◌==◌, ◌≢◌, nat_le, refl}
 use Rattle.std.proofs.Common.{sym, ap, subst, ◌∙◌, inl, inr, arith}
 use Rattle.std.specs.List.{AllByRecursion as All, range_with_len}
 use Rattle.std.specs.Str.{bytes_eq}
@@ -18,15 +18,15 @@ use Rattle.reader.specs.Cuts.{Cut}
 use Rattle.hosts.specs.Events.{Answer, Event, opened, sent, received, Got, datagram, failed}
 use Rattle.hosts.specs.Meaning.{Filter, bpf, In, keys, Meant}
 use Rattle.hosts.specs.Shapes.{Echoes}
-use Rattle.hosts.specs.Rules.{same_key, under, renamed, without, Chosen, asked, free, Grants, Served, refused, xdp, clsact, attached, replaced, removed, listed as listing-served, Accepts, Within, none, keep, lose, Rule}
-use Rattle.filters.specs.Fitting.{passes, is_filter, Stands}
-use Rattle.filters.specs.Keys.{taken, distinct, is_bpf, with_handle, lowest_free, admitted, renaming, removing}
+use Rattle.hosts.specs.Rules.{same_key, under, renamed, without, Chosen, asked, free, Grants, Served, refused, xdp, clsact, attached, replaced, removed, listed as listing_served, Accepts, Within, none, lose, Rule}
+use Rattle.filters.specs.Fitting.{passes, Stands}
+use Rattle.filters.specs.Keys.{taken, distinct, is_bpf, with_handle, lowest_free}
 use Rattle.hosts.specs.Losses.{within_refl}
 use Rattle.hosts.proofs.Keyed.{same_key_lem, clash, untaken_without}
-use Rattle.bench.specs.Replies.{told, told_bytes, answer, answer_bytes, done, done_bytes}
+use Rattle.bench.specs.Replies.{told, answer, done}
 use Rattle.bench.specs.Wholeness.{all_datagrams}
-use Rattle.bench.specs.Serving.{Outcome, answered, echoed, prioritized, granted, named, attaching, replacing, status_of, served, is_under}
-use Rattle.bench.specs.Calls.{State, state, fits, reply_answer, reply_after, Replied, Sends, stranger, request, came, rest, first, Calls}
+use Rattle.bench.specs.Serving.{Outcome, answered, prioritized, granted, named, attaching, replacing, status_of, served, is_under}
+use Rattle.bench.specs.Calls.{State, state, fits, Replied, Sends, stranger, request, came, rest, first, Calls}
 use Rattle.bench.specs.Shaping.{acknowledges, refuses, echoes, listed, all_sound}
 use Rattle.bench.specs.Paging.{cut_answer, cut_echo, cut_listing, whole_all, apart, in_taken}
 use Rattle.bench.specs.Granting.{granted_stands, held_stands}
@@ -185,7 +185,7 @@ module _ (fs : List Filter) (q : List ℕ) (a : All Stands fs) where
   serves (remove k) w = serves_remove k
   serves (list i p) w =
       let all = all_kept_by (is_under i p) Stands fs a in
-      record { messages = map (told 2) (under i p fs) ++ (done ∷ []); effect = listing-served (listed (under i p fs) all); cut = cut_listing (under i p fs) all }
+      record { messages = map (told 2) (under i p fs) ++ (done ∷ []); effect = listing_served (listed (under i p fs) all); cut = cut_listing (under i p fs) all }
 
 -- the calls
 abbrev Kept : State → State → Type 0

@@ -1,6 +1,6 @@
 -- What the bench host does about a request.
 use Rattle.std.specs.Prelude.{ℕ, Bool, cond, ◌&&◌, List, [], ◌∷◌, ◌++◌, map, ℤ, pos, Some, None, Ok, Err, Option, Result, ◌==◌}
-use Rattle.requests.specs.Asks.{Key, Program, Ask, set_xdp, add_clsact, attach, replace, remove, list}
+use Rattle.requests.specs.Asks.{Key, Ask, set_xdp, add_clsact, attach, replace, remove, list}
 use Rattle.queue.specs.Cuts.{joined}
 use Rattle.hosts.specs.Meaning.{Filter, bpf}
 use Rattle.hosts.specs.Rules.{without, renamed, under}

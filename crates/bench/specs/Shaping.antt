@@ -130,7 +130,7 @@ sound f s =
     record {
       priority = λ z. omega (arith, t.priority);
       handle = λ z. omega (arith, t.handle);
-      kind = t.kind-free;
+      kind = t.kind_free;
       name = a_name f.kind f.name t.name t.may;
     }
 
@@ -178,16 +178,16 @@ text_at : (kind : ℕ) (text r : List ℕ) → kind < 2 ^ 16 → length text ≤
     AttributeAt (attribute_bytes (record { kind = kind; payload = closed text }) ++ r) (record { kind = kind; payload = closed text }) r
 text_at kind text r k h = attribute_at (record { kind = kind; payload = closed text }) r (omega (arith, length-append text (0 ∷ []))) k
 
-name_row : (name : List ℕ) → length name ≤ 256 → Row (row_bytes (name_row name)) (name_row name)
-name_row name h = more (text_at 7 name [] (omega arith) h) none
+name_row_lem : (name : List ℕ) → length name ≤ 256 → Row (row_bytes (name_row name)) (name_row name)
+name_row_lem name h = more (text_at 7 name [] (omega arith) h) none
 
 options_row : (name : Option (List ℕ)) → optional_name_fault name ≡ None → Row (row_bytes (name_options name)) (name_options name)
 options_row None e = none
 options_row (Some name) e =
     more (attribute_at (record { kind = 2; payload = row_bytes (name_row name) }) [] (omega (arith, name_length name, name_short name e)) (omega arith)) none
 
-filter_row : (kind : List ℕ) (name : Option (List ℕ)) → length kind ≤ 256 → optional_name_fault name ≡ None → Row (row_bytes (filter_row kind name)) (filter_row kind name)
-filter_row kind name h e = more (text_at 1 kind (row_bytes (name_options name)) (omega arith) h) (options_row name e)
+filter_row_lem : (kind : List ℕ) (name : Option (List ℕ)) → length kind ≤ 256 → optional_name_fault name ≡ None → Row (row_bytes (filter_row kind name)) (filter_row kind name)
+filter_row_lem kind name h e = more (text_at 1 kind (row_bytes (name_options name)) (omega arith) h) (options_row name e)
 
 only_kind : (kind : List ℕ) (name : Option (List ℕ)) → payloads 1 (filter_row kind name) ≡ closed kind ∷ []
 only_kind kind None = refl
@@ -196,7 +196,7 @@ only_kind kind (Some name) = refl
 optioned : (f : Filter) (name : Option (List ℕ)) → f.name ≡ name → optional_name_fault name ≡ None → Optioned f (payloads 2 (filter_row f.kind name))
 optioned f None e n = bare e
 optioned f (Some name) e n =
-    named e (record { row = name_row name; stands = name_row name (name_short name n); only = refl })
+    named e (record { row = name_row name; stands = name_row_lem name (name_short name n); only = refl })
 
 pub lists : (f : Filter) → Stands f → Lists f (told 2 f)
 lists f s =
@@ -205,7 +205,7 @@ lists f s =
       names = names_key 2 f s;
       part = refl;
       row = filter_row f.kind f.name;
-      stands = filter_row f.kind f.name t.kind-short t.name;
+      stands = filter_row_lem f.kind f.name t.kind_short t.name;
       kind = only_kind f.kind f.name;
       options = optioned f f.name refl t.name;
     }

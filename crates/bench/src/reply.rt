@@ -40,8 +40,8 @@ fn header(len: u32, kind: u16, flags: u16) -> Nlmsghdr
 }
 
 fn put<R: Record>(record: &R, out: &mut [u8], at: usize)
-    requires { at + wide ≤ length out.old }
-    ensures { out.new ≡ take at out.old ++ (bytes «record».now ++ drop (at + wide) out.old) }
+    requires { at + R.wide ≤ length out.old }
+    ensures { out.new ≡ take at out.old ++ (R.bytes «record».now ++ drop (at + R.wide) out.old) }
 {
     let Some(_) = write(record, out, at) else {
         unreachable()

@@ -1,5 +1,5 @@
 -- Filters by their keys. Assumes nothing.
-use Rattle.std.proofs.Common.{◌≡◌, ℕ, Bool, true, false, not, ◌&&◌, ◌||◌, List, [], ◌∷◌, get_or, refl, ◌∙◌}
+use Rattle.std.proofs.Common.{◌≡◌, Bool, true, false, not, ◌&&◌, ◌||◌, List, [], ◌∷◌, get_or, refl, ◌∙◌}
 use Rattle.std.specs.Str.{bytes_eq}
 use Rattle.requests.specs.Asks.{Key}
 use Rattle.hosts.specs.Meaning.{Filter, bpf}

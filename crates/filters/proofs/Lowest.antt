@@ -1,5 +1,5 @@
 -- The lowest free handle. Assumes nothing.
-use Rattle.std.proofs.Common.{◌≡◌, ℕ, zero, suc, ◌+◌, ◌-◌, ◌<◌, ◌≤◌, Bool, true, false, cond, not, ◌&&◌, ◌||◌, eqb, ◌⊎◌, List, [], ◌∷◌, ◌++◌, map, length, get_or, drop, Some, None, sym, refl, ap, ◌∙◌, subst, inl, inr, ⊎_elim, arith}
+use Rattle.std.proofs.Common.{◌≡◌, ℕ, zero, suc, ◌+◌, ◌-◌, ◌<◌, ◌≤◌, Bool, true, false, cond, not, ◌||◌, ◌⊎◌, List, [], ◌∷◌, length, get_or, drop, Some, None, sym, refl, ap, ◌∙◌, ⊎_elim, arith}
 use Rattle.std.specs.List.{range_with_len, prefix_len}
 use Rattle.std.proofs.lemmas.List.FromFn.{length-range_with_len, get_or-range_with_len}
 use Rattle.std.proofs.lemmas.List.Sums.{prefix_len-drop_yes, prefix_len-drop_no, prefix_len-drop_all, prefix_len-le-length}
@@ -121,8 +121,8 @@ module _ (k : Key) (fs : List Filter) (short : length fs ≤ 32) where
       let c = crowded k 33 fs (λ h o l. ⊎_elim (λ (s : h ≤ 32). below e h o s) (λ (s : h ≡ 32 + 1). let q : h ≡ 1 + n = omega arith in ap p q ∙ t) (up_to h 32 (omega arith))) in
       omega arith)
 
-  pub lowest_free : taken (with_handle k (lowest_free k fs)) fs ≡ false
-  lowest_free = ⊎_elim within past (split n (prefix_len-le-length p (range_with_len 1 32)))
+  pub lowest_free_lem : taken (with_handle k (lowest_free k fs)) fs ≡ false
+  lowest_free_lem = ⊎_elim within past (split n (prefix_len-le-length p (range_with_len 1 32)))
 
   pub all_lower : (h : ℕ) → 1 ≤ h → h < lowest_free k fs → taken (with_handle k h) fs ≡ true
   all_lower h o l =
@@ -131,7 +131,7 @@ module _ (k : Key) (fs : List Filter) (short : length fs ≤ 32) where
 
 -- the same of a number that is the lowest
 pub free_at : (k : Key) (fs : List Filter) (n : ℕ) → length fs ≤ 32 → n ≡ lowest_free k fs → taken (with_handle k n) fs ≡ false
-free_at k fs n s e = ap (λ (h : ℕ). taken (with_handle k h) fs) e ∙ lowest_free k fs s
+free_at k fs n s e = ap (λ (h : ℕ). taken (with_handle k h) fs) e ∙ lowest_free_lem k fs s
 
 pub lower_at : (k : Key) (fs : List Filter) (n : ℕ) → length fs ≤ 32 → n ≡ lowest_free k fs → (h : ℕ) → 1 ≤ h → h < n → taken (with_handle k h) fs ≡ true
 lower_at k fs n s e h o l = all_lower k fs s h o (omega arith)

@@ -1,5 +1,5 @@
 -- Keys that are taken, and the lowest handle that is free.
-use Rattle.std.specs.Prelude.{ℕ, zero, suc, ◌+◌, Bool, true, false, cond, not, ◌&&◌, ◌||◌, List, [], ◌∷◌, ◌++◌, map, length, ℤ, negsuc, Some, None, Ok, Err, Option, Result, nat_le}
+use Rattle.std.specs.Prelude.{ℕ, zero, suc, ◌+◌, Bool, false, cond, ◌&&◌, ◌||◌, List, [], ◌∷◌, ◌++◌, map, length, ℤ, negsuc, Some, None, Ok, Err, Option, Result, nat_le}
 use Rattle.std.specs.List.{range_with_len, prefix_len}
 use Rattle.std.specs.Str.{bytes_eq}
 use Rattle.requests.specs.Asks.{Key}

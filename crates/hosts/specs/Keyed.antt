@@ -1,5 +1,5 @@
 -- Lists of things that have keys.
-use Rattle.std.specs.Prelude.{ℕ, Bool, true, false, cond, not, ◌&&◌, ◌||◌, List, [], ◌∷◌, map, filter}
+use Rattle.std.specs.Prelude.{ℕ, Bool, true, false, cond, not, ◌&&◌, ◌||◌, List, [], ◌∷◌, filter}
 use Rattle.std.specs.List.{prefix_len}
 use Rattle.requests.specs.Asks.{Key}
 use Rattle.hosts.specs.Rules.{same_key}

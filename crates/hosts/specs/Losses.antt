@@ -1,5 +1,5 @@
 -- The rules hold above a loss. Assumes nothing.
-use Rattle.std.specs.Prelude.{◌≡◌, ℕ, Bool, true, false, List, [], ◌∷◌, pos, refl}
+use Rattle.std.specs.Prelude.{ℕ, Bool, true, false, List, [], ◌∷◌, pos}
 use Rattle.std.proofs.Common.{sym, subst}
 use Rattle.hosts.specs.Events.{Event, opened, sent, received, Got, datagram, failed}
 use Rattle.hosts.specs.Meaning.{Filter}

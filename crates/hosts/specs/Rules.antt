@@ -1,11 +1,11 @@
 -- The rules of a host: what each call may answer, and what it does to the filters that stand and the datagrams that wait.
-use Rattle.std.specs.Prelude.{◌≡◌, ℕ, ◌≤◌, Bool, cond, not, ◌&&◌, ◌⊎◌, List, [], ◌∷◌, ◌++◌, map, ℤ, pos, negsuc, Some, None, Ok, Err, filter as kept_by, Option, ◌==◌, ◌≢◌}
+use Rattle.std.specs.Prelude.{◌≡◌, ℕ, ◌≤◌, Bool, cond, not, ◌&&◌, List, [], ◌∷◌, ◌++◌, map, pos, negsuc, Some, Ok, Err, filter as kept_by, Option, ◌==◌, ◌≢◌}
 use Rattle.records.specs.Layouts.{Message}
 use Rattle.requests.specs.Asks.{Key, Program, Ask, set_xdp, add_clsact, attach, replace, remove, list}
 use Rattle.requests.specs.Back.{Writes}
 use Rattle.requests.specs.declared.mode.XdpMode.{XdpMode}
 use Rattle.reader.specs.Cuts.{Cut}
-use Rattle.hosts.specs.Events.{Event, opened, sent, received, Got, datagram, failed}
+use Rattle.hosts.specs.Events.{Event, opened, sent, received, datagram, failed}
 use Rattle.hosts.specs.Meaning.{Filter, bpf, In, keys}
 use Rattle.hosts.specs.Shapes.{Acknowledges, Refuses, Echoes, Lists, Heads, Done}
 

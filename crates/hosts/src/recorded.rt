@@ -48,7 +48,7 @@ impl Recorded {
     pub fn new(exchanges: Vec<Exchange>) -> Recorded
         ensures { recording_of result ≡ unplayed (map part_of exchanges.items) }
     {
-        let heap = exchanges.allocator();
+        let heap = *exchanges.allocator();
         Recorded {
             exchanges: VecDeque::from_vec(exchanges),
             given: VecDeque::new(heap),
@@ -68,7 +68,7 @@ impl Recorded {
     fn keep(&mut self, request: &[u8]) -> bool
         ensures { recording_of self.new ≡ (if result then kept request.now (recording_of self.old) else recording_of self.old) }
     {
-        match Vec::from_slice(self.requests.allocator(), request) {
+        match Vec::from_slice(*self.requests.allocator(), request) {
             Ok(bytes) => self.requests.push(bytes).is_ok(),
             Err(_) => false,
         }

@@ -1,5 +1,5 @@
 -- Links: filters that are a session's own.
-use Rattle.std.specs.Prelude.{ℕ, zero, suc, Bool, cond, not, ◌&&◌, ◌||◌, List, [], ◌∷◌, ◌++◌, map, length, Some, None, Option, nat_le}
+use Rattle.std.specs.Prelude.{ℕ, zero, suc, Bool, not, ◌&&◌, ◌||◌, List, [], ◌∷◌, map, length, Some, None, Option, nat_le}
 use Rattle.requests.specs.Asks.{Key, key_of}
 use Rattle.hosts.specs.Keyed.{taken, distinct, before, without, altered}
 use Rattle.session.specs.declared.link.Link.{Link as CodeLink}

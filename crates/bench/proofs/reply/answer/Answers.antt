@@ -1,7 +1,6 @@
-use Rattle.std.proofs.Common.{◌≡◌, ℤ, ap, ◌∙◌, w32}
+use Rattle.std.proofs.Common.{ℤ, ap, ◌∙◌, w32}
 use mir.ValLaws.{to_z-of_z}
 use Rattle.records.specs.declared.nlmsghdr.Nlmsghdr.{Nlmsghdr}
-use Rattle.records.specs.Fields.{nlmsghdr_of}
 use Rattle.bench.proofs.Replying.{answer_laid}
 use Rattle.bench.proofs.reply.answer.Goals as goal
 

@@ -1,4 +1,4 @@
-use Rattle.std.proofs.Common.{◌≡◌, ℕ, ◌+◌, ◌<◌, ◌≤◌, List, [], ◌∷◌, ◌++◌, length, drop, Option, sym, refl, ap, ◌∙◌, arith, rules}
+use Rattle.std.proofs.Common.{ℕ, ◌+◌, ◌<◌, ◌≤◌, List, [], ◌∷◌, ◌++◌, length, drop, Option, sym, ap, ◌∙◌, arith}
 use Rattle.requests.specs.Handles.{bits_of}
 use Rattle.queue.specs.Cuts.{bulk}
 use Rattle.queue.specs.Waiting.{waiting}
@@ -16,8 +16,8 @@ loop-i-init c = (
   omega (arith, ap bulk c.new-reply.ensures),
 )
 
-pub put-if-under-requires : goal.put-if-under-requires
-put-if-under-requires c =
+pub put_if_under-requires : goal.put_if_under-requires
+put_if_under-requires c =
     let t = c.args.filters.now in
     omega (arith, c.loop-i.invariant.1, c.loop-i-test.true, c.len-i-end.ensures, held_length t, t.ok.0)
 
@@ -28,14 +28,14 @@ loop-i-preserved c =
     let p = bits_of c.args.parent in
     let ws = waiting c.loop-i.reply in
     let h : c.loop-i.i < length (held t) = omega (arith, c.loop-i-test.true, c.len-i-end.ensures) in
-    let e = c.put-if-under.ensures in
+    let e = c.put_if_under.ensures in
     let same = ap (λ (o : Option Filter). listed_one a p o ws) c.get.ensures in (
       ap (λ (vs : List (List ℕ)). onwards a p vs (drop (c.loop-i.i + 1) (held t))) (e ∙ same) ∙ sym (listed_more a p (held t) c.loop-i.i ws h) ∙ c.loop-i.invariant.0,
       omega (arith, ap bulk e, listed_bulk a p c.get.result ws, c.loop-i.invariant.1),
     )
 
-pub put-done-requires : goal.put-done-requires
-put-done-requires c =
+pub put_done-requires : goal.put_done-requires
+put_done-requires c =
     let t = c.args.filters.now in
     omega (arith, c.loop-i.invariant.1, c.loop-i.auto.i-end, c.len-i-end.ensures, held_length t, t.ok.0)
 
@@ -45,4 +45,4 @@ returns c =
     let a = c.args.interface in
     let p = bits_of c.args.parent in
     let h : length (held t) ≤ c.loop-i.i = omega (arith, c.loop-i-test.false, c.len-i-end.ensures) in
-    c.put-done.ensures ∙ ap (λ (ws : List (List ℕ)). ws ++ (done_bytes ∷ [])) (sym (listed_all a p (held t) c.loop-i.i (waiting c.loop-i.reply) h) ∙ c.loop-i.invariant.0)
+    c.put_done.ensures ∙ ap (λ (ws : List (List ℕ)). ws ++ (done_bytes ∷ [])) (sym (listed_all a p (held t) c.loop-i.i (waiting c.loop-i.reply) h) ∙ c.loop-i.invariant.0)

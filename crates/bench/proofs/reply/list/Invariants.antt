@@ -1,4 +1,4 @@
-use Rattle.std.proofs.Common.{◌≡◌, ◌*◌, ◌≤◌, [], length, drop}
+use Rattle.std.proofs.Common.{◌≡◌, ◌*◌, ◌≤◌, [], drop}
 use Rattle.requests.specs.Handles.{bits_of}
 use Rattle.queue.specs.Cuts.{bulk}
 use Rattle.queue.specs.Waiting.{waiting}

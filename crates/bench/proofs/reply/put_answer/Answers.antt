@@ -1,4 +1,4 @@
-use Rattle.std.proofs.Common.{◌≡◌, ℕ, List, [], ◌∷◌, ◌++◌, ap, ◌∙◌, w32}
+use Rattle.std.proofs.Common.{ℕ, List, [], ◌∷◌, ◌++◌, ap, ◌∙◌, w32}
 use mir.ValLaws.{to_z-of_z}
 use Rattle.queue.specs.Waiting.{waiting}
 use Rattle.bench.specs.Replies.{answer_bytes}

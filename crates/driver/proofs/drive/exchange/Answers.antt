@@ -1,4 +1,4 @@
-use Rattle.std.proofs.Common.{◌≡◌, ℤ, Option, sym, refl, ap, ◌∙◌, arith, w32, rules}
+use Rattle.std.proofs.Common.{ℤ, Option, sym, refl, ap, ◌∙◌, arith, w32, rules}
 use mir.ValLaws.{to_z-of_z}
 use Rattle.reader.specs.Replies.{at}
 use Rattle.reader.specs.declared.stage.Stage.TheVariants.{Going}
@@ -30,7 +30,7 @@ returns-in-Err-send g c =
       told = record {
         close = unsent c.in-Err-send.errno;
         final = at Going (g.S.Sink.view c.args.sink.now);
-        asked = record { trace = not_sent c.in-default.ensures c.in-Err-send.ensures; laid = refl; count = ap (λ (x : Exchange). x.datagrams) is };
+        asked = record { trace = not_sent c.in_default.ensures c.in-Err-send.ensures; laid = refl; count = ap (λ (x : Exchange). x.datagrams) is };
         closes = ap (λ (x : Exchange). x.closing) is ∙ ap Unsent (to_z-of_z w32 c.in-Err-send.errno (search rules));
         table = refl;
       };
@@ -44,7 +44,7 @@ returns-in-Some g c =
     let closes = ap Lost (to_z-of_z w32 c.in-Some.errno (search rules)) ∙ sym (ap (λ (f : Option ℤ). closing (ended_by f) x.new.turn.stage) c.in-Some.is) in
     record {
       told = told_replied g.H.Host.did g.S.Sink.fed c.args.request.now c.args.buffer.now _ _ _ _ _ _ _ _ _ x.result.failure _ begun
-          c.in-default.ensures c.in-default-send.ensures x.ensures.told closes;
+          c.in_default.ensures c.in_default-send.ensures x.ensures.told closes;
       bound = x.ensures.bound;
     }
 
@@ -55,6 +55,6 @@ returns-in-None g c =
     let closes = ap Read c.ended.ensures ∙ sym (ap (λ (f : Option ℤ). closing (ended_by f) x.new.turn.stage) c.in-None.is) in
     record {
       told = told_replied g.H.Host.did g.S.Sink.fed c.args.request.now c.args.buffer.now _ _ _ _ _ _ _ _ _ x.result.failure _ begun
-          c.in-default.ensures c.in-default-send.ensures x.ensures.told closes;
+          c.in_default.ensures c.in_default-send.ensures x.ensures.told closes;
       bound = x.ensures.bound;
     }

@@ -1,4 +1,4 @@
-use Rattle.std.proofs.Common.{◌≡◌, sym}
+use Rattle.std.proofs.Common.{sym}
 use Rattle.requests.specs.Asks.{key_of}
 use Rattle.filters.specs.Held.{held}
 use Rattle.filters.proofs.Finding.{held_stand}
@@ -8,4 +8,4 @@ use Rattle.bench.proofs.bench.Bench.replace.Goals as goal
 pub unreachable-requires : goal.unreachable-requires
 unreachable-requires c =
     let t = c.args.self.now.filters in
-    row_there _ _ (held_stands (key_of c.args.key) (held t) c.args.name.now (held_stand t) (sym c.if-not-has-bpf.ensures) c.requires.1) c.in-default.ensures
+    row_there _ _ (held_stands (key_of c.args.key) (held t) c.args.name.now (held_stand t) (sym c.if-not-has_bpf.ensures) c.requires.1) c.in_default.ensures

@@ -1,5 +1,5 @@
-use Rattle.std.proofs.Common.{◌≡◌, ap}
-use Rattle.requests.specs.Asks.{asks, key_of, program_of}
+use Rattle.std.proofs.Common.{ap}
+use Rattle.requests.specs.Asks.{asks, key_of}
 use Rattle.bench.specs.Asked.{request_long, attach_fault, replace_fault}
 use Rattle.bench.proofs.bench.Bench.serve.Goals as goal
 

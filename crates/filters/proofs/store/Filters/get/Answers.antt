@@ -1,4 +1,4 @@
-use Rattle.std.proofs.Common.{◌≡◌, Some, sym, ap, ◌∙◌, arith, rules}
+use Rattle.std.proofs.Common.{Some, sym, ap, ◌∙◌, arith}
 use Rattle.filters.specs.Keys.{nothing}
 use Rattle.filters.specs.Held.{held}
 use Rattle.filters.proofs.Finding.{held_length, held_there}

@@ -1,4 +1,4 @@
-use Rattle.std.proofs.Common.{◌≡◌, sym, ◌∙◌, rules}
+use Rattle.std.proofs.Common.{sym, ◌∙◌}
 use Rattle.requests.specs.Asks.{key_of}
 use Rattle.filters.specs.Held.{held}
 use Rattle.filters.proofs.Keyed.{untaken_bpf}
@@ -7,7 +7,7 @@ use Rattle.filters.proofs.store.Filters.has_bpf.Goals as goal
 
 pub returns-then-i-self : goal.returns-then-i-self
 returns-then-i-self c =
-    c.is-bpf.ensures ∙ sym (place_bpf c.args.self.now (key_of c.args.key) c.place-i.result c.place-i.ensures _ c.if-i-self.true)
+    c.is_bpf.ensures ∙ sym (place_bpf c.args.self.now (key_of c.args.key) c.place-i.result c.place-i.ensures _ c.if-i-self.true)
 
 pub returns-else-i-self : goal.returns-else-i-self
 returns-else-i-self c =

@@ -1,4 +1,4 @@
-use Rattle.std.proofs.Common.{sym, rules}
+use Rattle.std.proofs.Common.{sym}
 use Rattle.filters.proofs.Finding.{held_length}
 use Rattle.filters.proofs.store.Filters.len.Goals as goal
 

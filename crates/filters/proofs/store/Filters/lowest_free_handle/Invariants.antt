@@ -1,4 +1,4 @@
-use Rattle.std.proofs.Common.{◌≡◌, ℕ, ◌+◌, ◌-◌, ◌≤◌}
+use Rattle.std.proofs.Common.{◌≡◌, ◌+◌, ◌-◌, ◌≤◌}
 use Rattle.requests.specs.Asks.{key_of}
 use Rattle.filters.specs.Keys.{taken, with_handle, lowest_free}
 use Rattle.filters.specs.Held.{held}

@@ -1,4 +1,4 @@
-use Rattle.std.proofs.Common.{◌≡◌, ◌<◌, true, List, length, sym, refl, ap, ◌∙◌, arith, rules}
+use Rattle.std.proofs.Common.{◌<◌, List, length, refl, ap, ◌∙◌, arith, rules}
 use Rattle.std.proofs.lemmas.List.{length-set}
 use Rattle.hosts.specs.Meaning.{Filter}
 use Rattle.filters.specs.Rows.{meaning}
@@ -12,18 +12,17 @@ use Rattle.filters.proofs.store.Filters.put.Goals as goal
 pub bounds-rows-len : goal.bounds-rows-len
 bounds-rows-len c = let e = held_length c.args.self.now in search rules
 
-pub invariant-of-self : goal.invariant-of-self
-invariant-of-self c =
+pub invariant_of-self : goal.invariant_of-self
+invariant_of-self c =
     let t = c.args.self.now in
     let e = held_length t in
-    let h : t.len < length t.rows = omega (arith, e, c.requires.0, t.ok.1) in (
-      (omega (arith, e, c.requires.0), length-set t.rows t.len c.args.row ∙ t.ok.1),
-      (
-        ap (λ (fs : List Filter). distinct fs) (held_push meaning t.rows t.len c.args.row _ h refl)
-            ∙ distinct_append (λ (f : Filter). f.key) (held t) (meaning c.args.row) t.apart c.requires.1,
-        tt,
-      ),
-    )
+    let h : t.len < length t.rows = omega (arith, e, c.requires.0, t.ok.1) in
+    record {
+      ok = (omega (arith, e, c.requires.0), length-set t.rows t.len c.args.row ∙ t.ok.1);
+      apart =
+          ap (λ (fs : List Filter). distinct fs) (held_push meaning t.rows t.len c.args.row _ h refl)
+          ∙ distinct_append (λ (f : Filter). f.key) (held t) (meaning c.args.row) t.apart c.requires.1;
+    }
 
 pub returns : goal.returns
 returns c =

@@ -1,4 +1,4 @@
-use Rattle.std.proofs.Common.{◌≡◌, Bool, cond, ℤ, negsuc, Ok, Err, Result, sym, ap}
+use Rattle.std.proofs.Common.{Bool, cond, ℤ, negsuc, Ok, Err, Result, sym, ap}
 use Rattle.requests.specs.Asks.{key_of}
 use Rattle.hosts.specs.Meaning.{Filter}
 use Rattle.filters.specs.Held.{held}
@@ -12,10 +12,10 @@ returns-then-i-self c =
     let n = place_missed t (key_of c.args.key) c.place-i.result c.place-i.ensures c.if-i-self.true in
     record { answer = sym (ap (λ (b : Bool). cond {A = Result (Unit {0}) ℤ} b (Ok tt) (Err (negsuc 1))) n); after = sym (untaken_without (λ (f : Filter). f.key) (key_of c.args.key) (held t) n) }
 
-pub take-out-requires : goal.take-out-requires
-take-out-requires c = (c.place-i.ensures, place_found c.args.self.now (key_of c.args.key) c.place-i.result c.place-i.ensures c.if-i-self.false)
+pub take_out-requires : goal.take_out-requires
+take_out-requires c = (c.place-i.ensures, place_found c.args.self.now (key_of c.args.key) c.place-i.result c.place-i.ensures c.if-i-self.false)
 
 pub returns : goal.returns
 returns c =
     let y = place_found c.args.self.now (key_of c.args.key) c.place-i.result c.place-i.ensures c.if-i-self.false in
-    record { answer = sym (ap (λ (b : Bool). cond {A = Result (Unit {0}) ℤ} b (Ok tt) (Err (negsuc 1))) y); after = c.take-out.ensures }
+    record { answer = sym (ap (λ (b : Bool). cond {A = Result (Unit {0}) ℤ} b (Ok tt) (Err (negsuc 1))) y); after = c.take_out.ensures }

@@ -1,4 +1,4 @@
-use Rattle.std.proofs.Common.{◌≡◌, List, refl, ap, ◌∙◌, arith, rules}
+use Rattle.std.proofs.Common.{List, refl, ap, ◌∙◌, rules}
 use Rattle.std.proofs.lemmas.List.{length-set}
 use Rattle.requests.specs.Asks.{key_of}
 use Rattle.hosts.specs.Meaning.{Filter}
@@ -8,8 +8,8 @@ use Rattle.hosts.proofs.Keyed.{distinct_altered}
 use Rattle.filters.proofs.Editing.{inside, bpf_taken, kind_there, renamed_held}
 use Rattle.filters.proofs.store.Filters.rename_at.Goals as goal
 
-pub offset-bounds-self-i : goal.offset-bounds-self-i
-offset-bounds-self-i c =
+pub offset_bounds-self-i : goal.offset_bounds-self-i
+offset_bounds-self-i c =
     let t = c.args.self.now in
     let h = inside t (key_of c.args.key) c.args.i c.requires.0 (bpf_taken t (key_of c.args.key) c.args.i c.requires.0 c.requires.1.1) in
     search rules
@@ -29,8 +29,8 @@ bounds-self-i c =
 pub renamed-row-requires : goal.renamed-row-requires
 renamed-row-requires c = (c.requires.1.0, kind_there c.args.self.now (key_of c.args.key) c.args.i c.requires.0 _ c.requires.1.1)
 
-pub offset-bounds-self-i-2 : goal.offset-bounds-self-i-2
-offset-bounds-self-i-2 c =
+pub offset_bounds-self-i-2 : goal.offset_bounds-self-i-2
+offset_bounds-self-i-2 c =
     let t = c.args.self.now in
     let h = inside t (key_of c.args.key) c.args.i c.requires.0 (bpf_taken t (key_of c.args.key) c.args.i c.requires.0 c.requires.1.1) in
     search rules
@@ -47,8 +47,8 @@ bounds-self-i-2 c =
     let h = inside t (key_of c.args.key) c.args.i c.requires.0 (bpf_taken t (key_of c.args.key) c.args.i c.requires.0 c.requires.1.1) in
     search rules
 
-pub invariant-of-self : goal.invariant-of-self
-invariant-of-self c =
+pub invariant_of-self : goal.invariant_of-self
+invariant_of-self c =
     let t = c.args.self.now in
     let k = key_of c.args.key in (
       (t.ok.0, length-set t.rows c.args.i c.renamed-row.result ∙ t.ok.1),

@@ -12,12 +12,12 @@ returns-then-self-other-gt-ROOM c =
     let y = held_bulk o.lens o.count o.used (sums o) o.bytes (search rules) in
     record { answer = sym (lt-leb _ _ (omega arith)); after = refl }
 
-pub invariant-of-self : goal.invariant-of-self
-invariant-of-self c =
+pub invariant_of-self : goal.invariant_of-self
+invariant_of-self c =
     let q = c.args.self.now in
     let o = c.args.other.now in
     let s = append_sums q.lens q.count q.used (sums q) o.lens o.count o.used (sums o) c.place-2.new.all _ (simp sub-zero at c.place-2.ensures) in
-    ((s.few, search rules), ((search rules, search rules), (s.sum, (s.each, tt))))
+    record { few = (s.few, search rules); arrays = (search rules, search rules); sum = s.sum; each = s.each }
 
 pub returns : goal.returns
 returns c =

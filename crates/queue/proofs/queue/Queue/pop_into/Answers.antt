@@ -13,14 +13,14 @@ returns-then-len-out c =
       out = long_out q.lens q.count q.used (sums q) (search rules) n (search rules) q.bytes (search rules) o (search rules);
     }
 
-pub overflow-sub-self-2 : goal.overflow-sub-self-2
-overflow-sub-self-2 c = let q = c.args.self.now in pop_less q.lens q.count q.used (sums q) (search rules) c.from-len.result (search rules)
+pub overflow_sub-self-2 : goal.overflow_sub-self-2
+overflow_sub-self-2 c = let q = c.args.self.now in pop_less q.lens q.count q.used (sums q) (search rules) c.from-len.result (search rules)
 
-pub invariant-of-self : goal.invariant-of-self
-invariant-of-self c =
+pub invariant_of-self : goal.invariant_of-self
+invariant_of-self c =
     let q = c.args.self.now in
     let s = pop_sums q.lens q.count q.used (sums q) (search rules) c.from-len.result (search rules) c.shift.new.lens c.shift.ensures in
-    ((s.few, search rules), ((search rules, search rules), (s.sum, (s.each, tt))))
+    record { few = (s.few, search rules); arrays = (search rules, search rules); sum = s.sum; each = s.each }
 
 pub returns : goal.returns
 returns c =

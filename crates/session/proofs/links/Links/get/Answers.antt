@@ -1,4 +1,4 @@
-use Rattle.std.proofs.Common.{◌≡◌, Some, sym, ap, ◌∙◌, arith}
+use Rattle.std.proofs.Common.{Some, sym, ap, ◌∙◌, arith}
 use Rattle.hosts.proofs.Stored.{stored_at}
 use Rattle.session.specs.Linked.{Link, link_of}
 use Rattle.session.specs.Held.{links_of}

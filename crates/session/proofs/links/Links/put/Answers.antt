@@ -1,4 +1,4 @@
-use Rattle.std.proofs.Common.{◌≡◌, ◌<◌, List, length, refl, ap, ◌∙◌, arith, rules}
+use Rattle.std.proofs.Common.{◌<◌, List, length, refl, ap, ◌∙◌, arith, rules}
 use Rattle.std.proofs.lemmas.List.{length-set}
 use Rattle.hosts.proofs.Rowed.{held_push}
 use Rattle.hosts.proofs.Keyed.{distinct_append}
@@ -10,18 +10,17 @@ use Rattle.session.proofs.links.Links.put.Goals as goal
 pub bounds-rows-len : goal.bounds-rows-len
 bounds-rows-len c = let e = links_length c.args.self.now in search rules
 
-pub invariant-of-self : goal.invariant-of-self
-invariant-of-self c =
+pub invariant_of-self : goal.invariant_of-self
+invariant_of-self c =
     let t = c.args.self.now in
     let e = links_length t in
-    let h : t.len < length t.rows = omega (arith, e, c.requires.0, t.ok.1) in (
-      (omega (arith, e, c.requires.0), length-set t.rows t.len c.args.link ∙ t.ok.1),
-      (
-        ap (λ (ls : List Link). apart ls) (held_push link_of t.rows t.len c.args.link _ h refl)
-            ∙ distinct_append (λ (l : Link). l.key) (links_of t) (link_of c.args.link) t.differ c.requires.1,
-        tt,
-      ),
-    )
+    let h : t.len < length t.rows = omega (arith, e, c.requires.0, t.ok.1) in
+    record {
+      ok = (omega (arith, e, c.requires.0), length-set t.rows t.len c.args.link ∙ t.ok.1);
+      differ =
+          ap (λ (ls : List Link). apart ls) (held_push link_of t.rows t.len c.args.link _ h refl)
+          ∙ distinct_append (λ (l : Link). l.key) (links_of t) (link_of c.args.link) t.differ c.requires.1;
+    }
 
 pub returns : goal.returns
 returns c =

@@ -1,4 +1,4 @@
-use Rattle.std.proofs.Common.{◌≡◌, sym}
+use Rattle.std.proofs.Common.{sym}
 use Rattle.requests.specs.Asks.{key_of}
 use Rattle.hosts.proofs.Keyed.{untaken_without}
 use Rattle.hosts.proofs.Stored.{place_found, place_missed}
@@ -7,8 +7,8 @@ use Rattle.session.specs.Held.{links_of}
 use Rattle.session.proofs.Linking.{roomy}
 use Rattle.session.proofs.links.Links.remove.Goals as goal
 
-pub take-out-requires : goal.take-out-requires
-take-out-requires c =
+pub take_out-requires : goal.take_out-requires
+take_out-requires c =
     let t = c.args.self.now in (
       c.place-i.ensures,
       place_found link_of (λ (l : Link). l.key) t.rows t.len (roomy t) (key_of c.args.key) c.place-i.result c.place-i.ensures c.if-i-self.true,

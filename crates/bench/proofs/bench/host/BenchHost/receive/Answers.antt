@@ -1,4 +1,4 @@
-use Rattle.std.proofs.Common.{◌≡◌, ℕ, List, length, ap, ◌∙◌}
+use Rattle.std.proofs.Common.{ℕ, List, length, ap, ◌∙◌}
 use Rattle.queue.specs.Waiting.{waiting}
 use Rattle.filters.specs.Held.{held}
 use Rattle.bench.specs.Wholeness.{all_datagrams}
@@ -19,7 +19,7 @@ returns-in-None c =
     let h = empty c.args.buffer.now c.if-buffer-lt-LONGEST.false (waiting b.queue) _ (held b.filters) _ b.whole e.answer e.after e.out in
     record { done = (h.gives, h.leaves); laid = h.lays; sized = tt }
 
-pub invariant-of-self : goal.invariant-of-self
-invariant-of-self c =
+pub invariant_of-self : goal.invariant_of-self
+invariant_of-self c =
     let b = c.args.self.now in
-    (ap (λ (ws : List (List ℕ)). all_datagrams ws) c.pop-into.ensures.after ∙ whole_behind (length c.args.buffer.now) (waiting b.queue) b.whole, tt)
+    record { whole = ap (λ (ws : List (List ℕ)). all_datagrams ws) c.pop_into.ensures.after ∙ whole_behind (length c.args.buffer.now) (waiting b.queue) b.whole }
