@@ -1,5 +1,5 @@
 -- One attribute at the front of a row: laid out, and read. Assumes nothing.
-use Rattle.std.proofs.Common.{◌≡◌, ℕ, ◌+◌, ◌-◌, ◌*◌, ◌/◌, ◌<◌, ◌≤◌, List, [], ◌∷◌, ◌++◌, length, take, drop, sym, refl, ap, ◌∙◌, arith}
+use Rattle.std.proofs.Common.{◌≡◌, ℕ, ◌+◌, ◌-◌, ◌<◌, ◌≤◌, List, [], length, take, drop, sym, refl, ap, ◌∙◌, arith}
 use Rattle.std.proofs.lemmas.List.{length-drop, length-take-le, nil_from_length, take_rest}
 use Rattle.std.proofs.lemmas.Bool.Decides.{nat_tests}
 use Rattle.records.specs.declared.nlattr.Nlattr.{Nlattr}
@@ -7,11 +7,11 @@ use Rattle.records.specs.Fields.{nlattr_of}
 use Rattle.reader.specs.declared.fault.AttributeFault.{AttributeFault}
 use Rattle.reader.specs.declared.fault.AttributeFault.TheVariants.{Cut, Length, Past}
 use Rattle.records.specs.Words.{le2}
-use Rattle.records.specs.Align.{padded, fill}
+use Rattle.records.specs.Align.{padded}
 use Rattle.records.specs.WordsLemmas.{le2_take}
 use Rattle.reader.specs.Walks.{Step, end, fault, item, on_step, Reads, Stops}
 use Rattle.records.specs.Layouts.{Attribute, AttributeAt}
-use Rattle.reader.specs.Rows.{attribute_step, attribute_at, attributes}
+use Rattle.reader.specs.Rows.{attribute_step, attributes}
 use Rattle.reader.proofs.Walking.{reads, stops, reading_step}
 use Rattle.reader.proofs.Pieces.{size, le2_front, payload_at, rest_at, split}
 

@@ -1,6 +1,6 @@
 -- The texts of a row, one by one. Assumes nothing.
-use Rattle.std.proofs.Common.{◌≡◌, ℕ, List, [], ◌∷◌, Some, None, Ok, Err, Option, Result, sym, refl, ap, ◌∙◌}
-use Rattle.reader.specs.Walks.{Step, end, fault, item, on_step, seen}
+use Rattle.std.proofs.Common.{◌≡◌, ℕ, List, Result, sym, ap, ◌∙◌}
+use Rattle.reader.specs.Walks.{Step, item, on_step}
 use Rattle.records.specs.Layouts.{Attribute}
 use Rattle.reader.specs.Rows.{attribute_step, attributes}
 use Rattle.reader.specs.declared.fault.AttributeFault.{AttributeFault}

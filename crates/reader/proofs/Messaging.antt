@@ -1,5 +1,5 @@
 -- One message at the front of a datagram: laid out, and read. Assumes nothing.
-use Rattle.std.proofs.Common.{◌≡◌, ℕ, ◌+◌, ◌-◌, ◌*◌, ◌/◌, ◌<◌, ◌≤◌, min, ◌⊎◌, List, [], ◌∷◌, ◌++◌, length, take, drop, sym, refl, ap, ◌∙◌, inl, inr, ⊎_elim, arith}
+use Rattle.std.proofs.Common.{◌≡◌, ℕ, ◌+◌, ◌-◌, ◌<◌, ◌≤◌, min, ◌⊎◌, List, [], length, take, drop, sym, refl, ap, ◌∙◌, inl, inr, ⊎_elim, arith}
 use Rattle.std.proofs.lemmas.List.{length-drop, length-take, length-take-le, nil_from_length, take_rest, drop_all}
 use Rattle.std.proofs.lemmas.Bool.Decides.{nat_tests}
 use Rattle.reader.specs.declared.fault.MessageFault.{MessageFault}
@@ -11,7 +11,7 @@ use Rattle.records.specs.Align.{padded, fill}
 use Rattle.records.specs.WordsLemmas.{le2_take, le4_take}
 use Rattle.reader.specs.Walks.{Step, end, fault, item, on_step, Reads, Stops}
 use Rattle.records.specs.Layouts.{Message, MessageAt}
-use Rattle.reader.specs.Datagrams.{message_step, message_at, messages}
+use Rattle.reader.specs.Datagrams.{message_step, messages}
 use Rattle.reader.proofs.Walking.{reads, stops, reading_step}
 use Rattle.reader.proofs.Pieces.{size, le2_front, le4_front, payload_at, rest_at, split}
 

@@ -1,6 +1,6 @@
 -- A header, a payload, padding and a rest, in a list of bytes. Assumes nothing.
-use Rattle.std.proofs.Common.{◌≡◌, ℕ, ◌+◌, ◌-◌, ◌<◌, ◌≤◌, List, [], ◌∷◌, ◌++◌, length, get_or, take, drop, sym, refl, ap, ◌∙◌, arith}
-use Rattle.std.proofs.lemmas.List.{length-append, append_assoc, get_or_append_left, get_or-take, take_at, drop_at, take-append-drop, drop-drop}
+use Rattle.std.proofs.Common.{◌≡◌, ℕ, ◌+◌, ◌-◌, ◌<◌, ◌≤◌, List, ◌++◌, length, get_or, take, drop, ap, ◌∙◌, arith}
+use Rattle.std.proofs.lemmas.List.{length-append, append_assoc, get_or_append_left, take_at, drop_at, take-append-drop, drop-drop}
 use Rattle.records.specs.Words.{le2, le4}
 
 module _ (b h p z r : List ℕ) (w : ℕ) (e : b ≡ h ++ (p ++ (z ++ r))) (l : length h ≡ w) where

@@ -1,7 +1,7 @@
 -- Looking for the message that refuses. Assumes nothing.
-use Rattle.std.proofs.Common.{◌≡◌, ℕ, List, [], ◌∷◌, sym, refl, ap, ◌∙◌}
+use Rattle.std.proofs.Common.{◌≡◌, ℕ, List, sym, refl, ap, ◌∙◌}
 use Rattle.records.specs.Layouts.{Message}
-use Rattle.reader.specs.Walks.{Step, end, fault, item, on_step}
+use Rattle.reader.specs.Walks.{Step, item, on_step}
 use Rattle.reader.specs.Datagrams.{message_step, messages}
 use Rattle.reader.specs.declared.fault.MessageFault.{MessageFault}
 use Rattle.reader.specs.declared.class.Class.{Class}

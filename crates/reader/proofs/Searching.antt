@@ -1,5 +1,5 @@
 -- A match in a listing. Assumes nothing.
-use Rattle.std.proofs.Common.{◌≡◌, ℕ, List, Some, None, Ok, Err, Option, Result, sym, refl, ap, ◌∙◌}
+use Rattle.std.proofs.Common.{◌≡◌, ℕ, List, Some, Ok, Err, Option, Result, sym, refl, ap, ◌∙◌}
 use Rattle.reader.specs.declared.fault.TurnFault.{TurnFault}
 use Rattle.reader.specs.declared.matches.Match.{Match}
 use Rattle.reader.specs.Visits.{then}

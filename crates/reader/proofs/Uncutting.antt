@@ -1,6 +1,5 @@
 -- A listing that is cut into datagrams in two ways. Assumes nothing.
-use Rattle.std.proofs.Common.{◌≡◌, ℕ, ◌≤◌, Bool, true, false, cond, ltb, List, [], ◌∷◌, ◌++◌, length, drop, ℤ, pos, Some, None, fold, Option, Result, sym, refl, ap, ◌∙◌, subst, arith}
-use lib.Signed.{lt_z}
+use Rattle.std.proofs.Common.{◌≡◌, ℕ, ◌≤◌, Bool, true, false, cond, ltb, int_lt, List, [], ◌∷◌, ◌++◌, length, drop, ℤ, pos, Some, None, fold, Option, Result, sym, refl, ap, ◌∙◌, arith}
 use Rattle.std.proofs.lemmas.Bool.{cond_both}
 use Rattle.std.proofs.lemmas.Bool.Decides.{nat_tests}
 use Rattle.reader.specs.Walks.{clean, whole}
@@ -13,7 +12,7 @@ use Rattle.reader.specs.declared.stage.Stage.TheVariants.{Going, Ended, Faulted}
 use Rattle.reader.specs.declared.class.Class.{Class}
 use Rattle.reader.specs.declared.class.Class.TheVariants.{Refused, Done}
 use Rattle.reader.specs.Classes.{status_of, class_of, done_by, refusal}
-use Rattle.reader.specs.Replies.{State, at, multi, last_multi, at_end, too_long, ending, step, heeded, onwards, took, reply, over}
+use Rattle.reader.specs.Replies.{State, at, last_multi, at_end, too_long, ending, step, heeded, onwards, took, reply, over}
 use Rattle.reader.specs.Cuts.{Cut, none, more, AllMulti, Listing, Uncut}
 
 folded_append : {A B : Type 0} (f : B → A → B) (a : B) (xs ys : List A) → fold f a (xs ++ ys) ≡ fold f (fold f a xs) ys
@@ -24,9 +23,9 @@ front_multi : (xs ys : List Message) → AllMulti (xs ++ ys) → AllMulti xs × 
 front_multi [] ys a = (tt, a)
 front_multi (x ∷ xs) ys a = let r = front_multi xs ys a.1 in ((a.0, r.0), r.1)
 
-last_multi : (ms : List Message) → AllMulti ms → last_multi true ms ≡ true
-last_multi [] a = refl
-last_multi (m ∷ ms) a = ap (λ (l : Bool). last_multi l ms) a.0 ∙ last_multi ms a.1
+last_of_multis : (ms : List Message) → AllMulti ms → last_multi true ms ≡ true
+last_of_multis [] a = refl
+last_of_multis (m ∷ ms) a = ap (λ (l : Bool). last_multi l ms) a.0 ∙ last_of_multis ms a.1
 
 short : (n : ℕ) → n ≤ 4096 → ltb 4096 n ≡ false
 short n h = grind (arith, nat_tests)
@@ -43,7 +42,7 @@ module _ {T : Type 0} (fed : T → List ℕ → Result T TurnFault) where
       let e : messages d ≡ whole ms = (messages_read d ms).0 l in
       t
       ∙ ap (onwards fed s true) e
-      ∙ ap (λ (x : Bool). ending (fold (step fed) s ms) x clean) (last_multi ms a)
+      ∙ ap (λ (x : Bool). ending (fold (step fed) s ms) x clean) (last_of_multis ms a)
       ∙ ap (λ (x : Stage). at x (fold (step fed) s ms).table) (goes_on (fold (step fed) s ms).stage)
 
   pub uncut : (s : State T) (ds : List (List ℕ)) (ms : List Message) → Cut ds ms → AllMulti ms → reply fed s ds ≡ fold (step fed) s ms
@@ -55,14 +54,14 @@ module _ {T : Type 0} (fed : T → List ℕ → Result T TurnFault) where
       ∙ sym (folded_append (step fed) s (m ∷ ms) ns)
 
   -- a DONE ends what goes on
-  done_by : (z : Option ℤ) (t : T) (p : List ℕ) → over (heeded fed Going t (done_by z p) p).stage ≡ true
-  done_by None t p = refl
-  done_by (Some z) t p =
+  done_over : (z : Option ℤ) (t : T) (p : List ℕ) → over (heeded fed Going t (done_by z p) p).stage ≡ true
+  done_over None t p = refl
+  done_over (Some z) t p =
       let P : Class → Type 0 = λ c. over (heeded fed Going t c p).stage ≡ true in
-      cond_both (lt_z z (pos 0)) (Refused (refusal z (drop 4 p))) Done P (λ _. refl) (λ _. refl)
+      cond_both (int_lt z (pos 0)) (Refused (refusal z (drop 4 p))) Done P (λ _. refl) (λ _. refl)
 
   at_done : (x : Stage) (t : T) (p : List ℕ) → over (heeded fed x t (done_by (status_of p) p) p).stage ≡ true
-  at_done Going t p = done_by (status_of p) t p
+  at_done Going t p = done_over (status_of p) t p
   at_done Ended t p = refl
   at_done (Faulted f) t p = refl
 

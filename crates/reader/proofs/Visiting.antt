@@ -1,5 +1,5 @@
 -- A walk over a row, for any visitor. Assumes nothing.
-use Rattle.std.proofs.Common.{◌≡◌, ℕ, List, [], ◌∷◌, Some, None, Ok, Err, Option, Result, sym, refl, ap, ◌∙◌}
+use Rattle.std.proofs.Common.{◌≡◌, ℕ, List, Some, Ok, Err, Result, sym, ap, ◌∙◌}
 use Rattle.reader.specs.Walks.{Step, end, fault, item, on_step, seen}
 use Rattle.reader.specs.Rows.{attribute_step, attributes, attribute_of}
 use Rattle.records.specs.Layouts.{Attribute}

@@ -1,6 +1,6 @@
 -- The walk over the messages of a datagram. Assumes nothing.
-use Rattle.std.proofs.Common.{◌≡◌, ℕ, ◌<◌, Bool, true, false, List, [], ◌∷◌, length, Some, None, Ok, Err, Option, Result, sym, refl, ap, ◌∙◌}
-use Rattle.reader.specs.Walks.{Stop, clean, broken, Step, end, fault, item, on_step, seen}
+use Rattle.std.proofs.Common.{◌≡◌, ℕ, Bool, true, List, Some, Ok, Err, Result, sym, refl, ap, ◌∙◌}
+use Rattle.reader.specs.Walks.{broken, Step, end, fault, item, on_step, seen}
 use Rattle.records.specs.Layouts.{Message}
 use Rattle.reader.specs.Datagrams.{message_step, messages, message_of}
 use Rattle.reader.specs.declared.fault.MessageFault.{MessageFault}

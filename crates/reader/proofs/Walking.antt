@@ -1,5 +1,5 @@
 -- Reading piece by piece, over any step that shortens. Assumes nothing.
-use Rattle.std.proofs.Common.{◌≡◌, ℕ, zero, suc, ◌+◌, ◌<◌, ◌≤◌, List, [], ◌∷◌, length, sym, refl, ap, ◌∙◌, subst, arith}
+use Rattle.std.proofs.Common.{◌≡◌, ℕ, zero, suc, ◌<◌, ◌≤◌, List, [], ◌∷◌, length, sym, refl, ap, ◌∙◌, subst, arith}
 use Rattle.records.specs.Layouts.{Chain, none, more}
 use Rattle.reader.specs.Walks.{Upto, here, on, Step, end, fault, item, Stop, clean, broken, Reading, whole, after, on_step, read_by, reading, Reads, Stops}
 

@@ -1,5 +1,5 @@
 -- Reading the messages of a datagram.
-use Rattle.std.specs.Prelude.{ℕ, ◌+◌, ◌-◌, cond, ◌||◌, List, length, take, drop, ◌==◌, nat_lt}
+use Rattle.std.specs.Prelude.{ℕ, ◌-◌, cond, ◌||◌, List, length, take, drop, ◌==◌, nat_lt}
 use Rattle.records.specs.Words.{le2, le4}
 use Rattle.records.specs.Align.{padded}
 use Rattle.records.specs.Layouts.{Message}

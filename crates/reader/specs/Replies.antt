@@ -1,5 +1,5 @@
 -- What a reply comes to, message by message, over any table that takes rows.
-use Rattle.std.specs.Prelude.{◌≡◌, ℕ, Bool, true, false, cond, List, [], ◌∷◌, ◌++◌, length, Ok, Err, fold, Result, ◌==◌, bit_and, nat_lt}
+use Rattle.std.specs.Prelude.{ℕ, Bool, true, false, cond, List, length, Ok, Err, fold, Result, ◌==◌, bit_and, nat_lt}
 use Rattle.reader.specs.Walks.{Stop, clean, broken, Reading}
 use Rattle.records.specs.Layouts.{Message}
 use Rattle.reader.specs.Datagrams.{messages}

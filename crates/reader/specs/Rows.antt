@@ -1,5 +1,5 @@
 -- Reading a row of attributes.
-use Rattle.std.specs.Prelude.{ℕ, ◌+◌, ◌-◌, cond, List, length, take, drop, ◌==◌, bit_and, nat_lt}
+use Rattle.std.specs.Prelude.{ℕ, ◌-◌, cond, List, length, take, drop, ◌==◌, bit_and, nat_lt}
 use Rattle.records.specs.Words.{le2}
 use Rattle.records.specs.Align.{padded}
 use Rattle.records.specs.Layouts.{Attribute}

@@ -1,12 +1,11 @@
 -- The pieces that a builder writes are its message. Assumes nothing.
-use Rattle.std.proofs.Common.{◌≡◌, ℕ, ◌+◌, ◌<◌, ◌≤◌, cond, ltb, List, [], ◌∷◌, ◌++◌, length, drop, ℤ, Some, None, Ok, Err, Option, Result, sym, refl, ap, ◌∙◌, arith, w32, of_z}
+use Rattle.std.proofs.Common.{◌≡◌, ℕ, ◌+◌, ◌≤◌, List, [], ◌++◌, length, drop, ℤ, Some, None, Ok, Err, Option, Result, sym, refl, ap, ◌∙◌, arith, w32, of_z}
 use Rattle.std.specs.Option.{option_map}
 use Rattle.std.proofs.lemmas.Bool.Decides.{nat_tests}
 use Rattle.records.specs.Words.{bytes2, bytes4}
 use Rattle.records.specs.Fields.{ifinfomsg_bytes}
 use Rattle.records.specs.declared.ifinfomsg.Ifinfomsg.{Ifinfomsg}
 use Rattle.requests.specs.declared.fault.ArgumentFault.{ArgumentFault}
-use Rattle.requests.specs.declared.fault.ArgumentFault.TheVariants.{ShortBuffer}
 use Rattle.requests.specs.Table.{optional}
 use Rattle.requests.specs.Bytes.{attribute_bytes, row_bytes, optional_length}
 use Rattle.requests.specs.Builders.{link_bytes}
@@ -62,11 +61,11 @@ link_pieces len nest flags family fd xf ex =
     ++ (attribute_bytes (record { kind = 1; payload = bytes4 fd })
     ++ (attribute_bytes (record { kind = 3; payload = bytes4 xf }) ++ row_bytes (optional 8 (option_map bytes4 ex)))))
 
-link_pieces : (flags : ℕ) (family : Ifinfomsg) (fd : ℤ) (xf : ℕ) (ex : Option ℤ) →
+link_pieces_lem : (flags : ℕ) (family : Ifinfomsg) (fd : ℤ) (xf : ℕ) (ex : Option ℤ) →
     link_pieces (52 + optional_length ex) (20 + optional_length ex) flags family (of_z w32 fd) xf (option_map (of_z w32) ex) ≡ link_bytes flags family fd xf ex
 unfolding link_bytes link_pieces
-link_pieces flags family fd xf None = refl
-link_pieces flags family fd xf (Some e) = refl
+link_pieces_lem flags family fd xf None = refl
+link_pieces_lem flags family fd xf (Some e) = refl
 
 pub link_puts : (o0 o1 o2 o3 o4 o5 : List ℕ) (i1 i2 i3 i4 i5 : ℕ) (flags : ℕ) (family : Ifinfomsg) (fd : ℤ) (xf : ℕ) (ex : Option ℤ) (len nest w : ℕ) (word : Option ℕ) →
     word ≡ option_map (of_z w32) ex → nest ≡ 20 + optional_length ex → len ≡ 32 + nest → w ≡ of_z w32 fd →
@@ -84,5 +83,5 @@ link_puts o0 o1 o2 o3 o4 o5 i1 i2 i3 i4 i5 flags family fd xf ex len nest w word
     ∙ ap (λ (z : ℕ). link_pieces (52 + optional_length ex) z flags family w xf word) n
     ∙ ap (λ (z : ℕ). link_pieces (52 + optional_length ex) (20 + optional_length ex) flags family z xf word) d
     ∙ ap (λ (z : Option ℕ). link_pieces (52 + optional_length ex) (20 + optional_length ex) flags family (of_z w32 fd) xf z) a
-    ∙ link_pieces flags family fd xf ex)
+    ∙ link_pieces_lem flags family fd xf ex)
     (puts_both o0 o1 o5 _ _ 0 i1 i5 p1 (puts_both o1 o2 o5 _ _ i1 i2 i5 p2 (puts_both o2 o3 o5 _ _ i2 i3 i5 p3 (puts_both o3 o4 o5 _ _ i3 i4 i5 p4 p5))))

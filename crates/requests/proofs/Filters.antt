@@ -1,5 +1,5 @@
 -- A filter with a program: the pieces that are written are its message. Assumes nothing.
-use Rattle.std.proofs.Common.{◌≡◌, ℕ, ◌+◌, ◌≤◌, List, [], ◌∷◌, ◌++◌, map, length, Some, None, Option, sym, refl, ap, ◌∙◌, arith}
+use Rattle.std.proofs.Common.{◌≡◌, ℕ, ◌+◌, List, [], ◌∷◌, ◌++◌, map, length, Some, None, Option, sym, refl, ap, ◌∙◌, arith}
 use Rattle.std.specs.Option.{option_map}
 use Rattle.std.proofs.lemmas.List.{length-append, append-nil}
 use Rattle.records.specs.Words.{bytes2, bytes4}
@@ -12,7 +12,7 @@ use Rattle.requests.specs.Bytes.{attribute_bytes, row_bytes, attribute_of, optio
 use Rattle.requests.specs.Builders.{tc_bytes}
 use Rattle.requests.specs.Writing.{Puts}
 use Rattle.requests.proofs.Putting.{puts_both, puts_same}
-use Rattle.requests.proofs.Rows.{attribute_length, nested_bytes}
+use Rattle.requests.proofs.Rows.{attribute_length, nested_bytes_lem}
 use Rattle.requests.proofs.Messages.{header_bytes, with_payload, message_length, message_puts}
 
 -- the attributes of a filter
@@ -36,15 +36,15 @@ options_row : (class : Option ℕ) (fd : ℕ) (name : List ℕ) (bf : ℕ) → o
 options_row None fd name bf = refl
 options_row (Some c) fd name bf = refl
 
-optional_length : (class : Option ℕ) → length (row_bytes (optional 3 (option_map bytes4 class))) ≡ optional_length class
-optional_length None = refl
-optional_length (Some c) = refl
+optional_length_lem : (class : Option ℕ) → length (row_bytes (optional 3 (option_map bytes4 class))) ≡ optional_length class
+optional_length_lem None = refl
+optional_length_lem (Some c) = refl
 
 -- the options take so many bytes
 pub options_length : (class : Option ℕ) (fd : ℕ) (name : List ℕ) (bf : ℕ) → 4 + length (row_bytes (options class fd name bf)) ≡ 24 + optional_length class + padded (length name + 1)
 options_length class fd name bf =
     let e = ap length (options_row class fd name bf) in
-    let o = optional_length class in
+    let o = optional_length_lem class in
     let a = attribute_length (name_attribute name) in
     let n = length-append name (0 ∷ []) in
     let p = length-append (row_bytes (optional 3 (option_map bytes4 class))) (attribute_bytes (word 6 fd) ++ (attribute_bytes (name_attribute name) ++ attribute_bytes (word 8 bf))) in
@@ -68,13 +68,13 @@ module _ (class : Option ℕ) (fd : ℕ) (name : List ℕ) (bf : ℕ) where
       let n : nested ≡ 4 + length (row_bytes (options class fd name bf)) = omega arith in
       ap (λ (k : ℕ). rest_pieces k class fd name bf) n
       ∙ ap (λ (y : List ℕ). attribute_bytes kind_attribute ++ ((bytes2 (4 + length (row_bytes (options class fd name bf))) ++ bytes2 32770) ++ y)) (options_row class fd name bf)
-      ∙ ap (λ (y : List ℕ). attribute_bytes kind_attribute ++ y) (sym (nested_bytes 2 (options class fd name bf)))
+      ∙ ap (λ (y : List ℕ). attribute_bytes kind_attribute ++ y) (sym (nested_bytes_lem 2 (options class fd name bf)))
       ∙ ap (λ (y : List ℕ). attribute_bytes kind_attribute ++ y) (sym (append-nil nested_bytes))
 
   items_length : length item_bytes ≡ 8 + (24 + optional_length class + padded (length name + 1))
   items_length =
       let l = options_length class fd name bf in
-      let n = ap length (nested_bytes 2 (options class fd name bf)) in
+      let n = ap length (nested_bytes_lem 2 (options class fd name bf)) in
       let a = ap length (append-nil nested_bytes) in
       omega arith
 

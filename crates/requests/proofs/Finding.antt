@@ -1,6 +1,5 @@
 -- Which request bytes can be. Assumes nothing.
-use Rattle.std.proofs.Common.{◌≡◌, ℕ, ◌+◌, ◌-◌, ◌<◌, ◌≤◌, List, ◌++◌, length, take, drop, Some, None, Ok, Err, Option, Result, sym, refl, ap, ◌∙◌, subst, arith, MatchOption}
-use Rattle.std.specs.Option.{option_map}
+use Rattle.std.proofs.Common.{◌≡◌, ℕ, ◌-◌, ◌<◌, ◌≤◌, List, ◌++◌, length, take, drop, Some, None, Ok, Err, Option, sym, ap, ◌∙◌, subst, arith, MatchOption}
 use Rattle.std.proofs.lemmas.List.{take_at}
 use Rattle.std.proofs.lemmas.Bool.Decides.{nat_tests}
 use Rattle.requests.specs.declared.fault.ArgumentFault.{ArgumentFault}
@@ -13,8 +12,8 @@ use Rattle.requests.specs.Builders.{tc_bytes}
 use Rattle.requests.specs.Refusals.{argument_fault, room_fault, unless, written}
 use Rattle.requests.specs.Back.{Fits, Writes}
 use Rattle.requests.specs.Places.{Short, placed_xdp, placed}
-use Rattle.requests.proofs.Standing.{name_short, program_name, class_short, request_length, answered}
-use Rattle.requests.proofs.Placing.{type_is, flags_is, long_enough, program_descriptor, not_short, xdp_back, placed_back}
+use Rattle.requests.proofs.Standing.{name_short, program_name, class_short, request_length_lem, answered}
+use Rattle.requests.proofs.Placing.{type_is, flags_is, program_descriptor, not_short, xdp_back, placed_back}
 
 type_of_lem : (x : Ask) (b : List ℕ) → Writes x b → le2 b 4 ≡ type_of x
 type_of_lem x b w = ap (λ (z : List ℕ). le2 z 4) w.bytes ∙ type_is x
@@ -57,7 +56,7 @@ pub picked_xdp : (b : List ℕ) (r : Option Request) → le2 b 4 ≡ 19 → Matc
 picked_xdp b None k c = λ x w. at x w
   where
     at : (x : Ask) → Writes x b → ⊥
-    at (set_xdp i d e m) w = omega (arith, ap length w.bytes, request_length (set_xdp i d e m), c)
+    at (set_xdp i d e m) w = omega (arith, ap length w.bytes, request_length_lem (set_xdp i d e m), c)
     at (add_clsact i) w = omega (arith, type_of_lem (add_clsact i) b w)
     at (attach y p) w = omega (arith, type_of_lem (attach y p) b w)
     at (replace y p) w = omega (arith, type_of_lem (replace y p) b w)
@@ -89,13 +88,13 @@ picked_traffic b (Some q) kind flags k f c = (
 -- a request that passes the checks has at most 336 bytes
 high : (x : Ask) → argument_fault x ≡ None → length (request_bytes x) ≤ 336
 unfolding argument_fault
-high (set_xdp i d None m) e = omega (arith, request_length (set_xdp i d None m))
-high (set_xdp i d (Some f) m) e = omega (arith, request_length (set_xdp i d (Some f) m))
-high (add_clsact i) e = omega (arith, request_length (add_clsact i))
-high (attach k p) e = omega (arith, request_length (attach k p), name_short p.name (program_name k p e), class_short p.class)
-high (replace k p) e = omega (arith, request_length (replace k p), name_short p.name (program_name k p e), class_short p.class)
-high (remove k) e = omega (arith, request_length (remove k))
-high (list i p) e = omega (arith, request_length (list i p))
+high (set_xdp i d None m) e = omega (arith, request_length_lem (set_xdp i d None m))
+high (set_xdp i d (Some f) m) e = omega (arith, request_length_lem (set_xdp i d (Some f) m))
+high (add_clsact i) e = omega (arith, request_length_lem (add_clsact i))
+high (attach k p) e = omega (arith, request_length_lem (attach k p), name_short p.name (program_name k p e), class_short p.class)
+high (replace k p) e = omega (arith, request_length_lem (replace k p), name_short p.name (program_name k p e), class_short p.class)
+high (remove k) e = omega (arith, request_length_lem (remove k))
+high (list i p) e = omega (arith, request_length_lem (list i p))
 
 room : (bs : List ℕ) → length bs ≤ 336 → written None bs 336 ≡ Ok (length bs)
 room bs h = let t : room_fault 336 (length bs) ≡ None = grind (arith, nat_tests) in ap (λ (f : Option ArgumentFault). unless f (length bs)) t

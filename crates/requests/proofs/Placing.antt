@@ -1,26 +1,25 @@
 -- Picking the arguments out of a request's bytes undoes writing them. Assumes nothing.
-use Rattle.std.proofs.Common.{◌≡◌, ℕ, ◌+◌, ◌-◌, ◌*◌, ◌/◌, ◌%◌, ◌^◌, ◌<◌, ◌≤◌, Bool, true, false, cond, eqb, ltb, List, [], ◌∷◌, ◌++◌, map, length, take, drop, ℤ, pos, Some, None, Option, sym, refl, ap, ◌∙◌, subst, append_assoc, arith, w32, SFits, of_z, rules}
+use Rattle.std.proofs.Common.{◌≡◌, ℕ, ◌+◌, ◌-◌, ◌*◌, ◌/◌, ◌^◌, ◌<◌, ◌≤◌, List, [], ◌∷◌, ◌++◌, map, length, take, drop, Some, None, Option, refl, ap, ◌∙◌, append_assoc, arith, w32, of_z}
 use Rattle.std.proofs.lemmas.List.{take_at, length-append}
 use Rattle.std.proofs.lemmas.Bool.Decides.{nat_tests}
 use Rattle.records.specs.Words.{le2, le4, bytes2, bytes4}
-use Rattle.records.specs.Fields.{tcmsg_bytes, tcmsg_of, TcmsgFits, ifinfomsg_bytes, ifinfomsg_of, IfinfomsgFits}
+use Rattle.records.specs.Fields.{tcmsg_bytes, tcmsg_of, TcmsgFits, ifinfomsg_bytes, ifinfomsg_of}
 use Rattle.records.specs.WordsLemmas.{half_back, word_back}
 use Rattle.records.proofs.Same.{ifinfomsg_back, tcmsg_back}
-use Rattle.requests.specs.declared.fault.ArgumentFault.{ArgumentFault}
 use Rattle.requests.specs.declared.mode.XdpMode.{XdpMode}
 use Rattle.requests.specs.declared.mode.XdpMode.TheVariants.{Default, Skb, Driver, Hardware}
 use Rattle.requests.specs.Modes.{mode_flags}
 use Rattle.requests.specs.Asks.{Key, Program, Ask, set_xdp, add_clsact, attach, replace, remove, list}
 use Rattle.requests.specs.Table.{type_of, flags_of, condition_flag, signed_descriptor, interface_header, traffic_header, filter_header, bpf_items, items_of}
 use Rattle.requests.specs.Bytes.{request_bytes, request_length, optional_length, row_bytes, attribute_of}
-use Rattle.requests.specs.Refusals.{argument_fault, program_fault, interface_fault, descriptor_fault, optional_descriptor_fault, name_fault, first}
+use Rattle.requests.specs.Refusals.{argument_fault, program_fault, interface_fault, descriptor_fault, optional_descriptor_fault, first}
 use Rattle.requests.specs.Back.{KeyFits, ClassFits, Fits, Writes}
-use Rattle.requests.specs.Places.{header_key, header_of, base_of, class_of, program_at, placed_program, Short, small, nameless, cut, mode_of, descriptor_of, expected_of, placed_xdp, placed}
+use Rattle.requests.specs.Places.{header_key, header_of, base_of, placed_program, Short, small, nameless, cut, mode_of, descriptor_of, placed_xdp, placed}
 use Rattle.records.specs.declared.ifinfomsg.Ifinfomsg.{Ifinfomsg}
 use Rattle.records.specs.declared.tcmsg.Tcmsg.{Tcmsg}
 use Rattle.requests.specs.Builders.{tc_bytes}
 use Rattle.requests.proofs.Filters.{filter_length}
-use Rattle.requests.proofs.Standing.{first_none, name_short, program_name, class_short, request_length}
+use Rattle.requests.proofs.Standing.{first_none, name_short, program_name, request_length_lem}
 
 -- type and flags in their places
 pub type_is : (x : Ask) → le2 (request_bytes x) 4 ≡ type_of x
@@ -51,7 +50,7 @@ low (remove k) = omega arith
 low (list i p) = omega arith
 
 pub long_enough : (x : Ask) (b : List ℕ) → Writes x b → 36 ≤ length b
-long_enough x b w = omega (arith, ap length w.bytes, request_length x, low x)
+long_enough x b w = omega (arith, ap length w.bytes, request_length_lem x, low x)
 
 -- what the checks leave
 interface_low : (i : ℕ) → interface_fault i ≡ None → i < 2 ^ 31
@@ -78,8 +77,8 @@ key_is k = let e : (k.priority * 65536 + 0x0300) / 65536 ≡ k.priority = omega 
     ap (λ (q : ℕ). record { interface = k.interface; parent = k.parent; priority = q; handle = k.handle }) e
 
 -- the header of each traffic control request
-filter_header : (x : Ask) (k : Key) (r : List ℕ) → TcmsgFits (filter_header k) → drop 16 (request_bytes x) ≡ tcmsg_bytes (filter_header k) ++ r → header_key (header_of (request_bytes x)) ≡ k
-filter_header x k r f e = ap (λ (b : List ℕ). header_key (tcmsg_of b)) e ∙ ap header_key (tcmsg_back (filter_header k) r f) ∙ key_is k
+filter_header_lem : (x : Ask) (k : Key) (r : List ℕ) → TcmsgFits (filter_header k) → drop 16 (request_bytes x) ≡ tcmsg_bytes (filter_header k) ++ r → header_key (header_of (request_bytes x)) ≡ k
+filter_header_lem x k r f e = ap (λ (b : List ℕ). header_key (tcmsg_of b)) e ∙ ap header_key (tcmsg_back (filter_header k) r f) ∙ key_is k
 
 -- the program of a new filter
 same_program : {d d' : ℕ} {n n' : List ℕ} {c c' : Option ℕ} → d ≡ d' → n ≡ n' → c ≡ c' →
@@ -170,11 +169,11 @@ placed_back (add_clsact i) f s =
     ap (λ (t : Tcmsg). add_clsact (header_key t).interface)
     (tcmsg_back (traffic_header i 0xFFFF0000 0xFFFFFFF1 0) (row_of (add_clsact i)) (traffic_fits i _ _ _ (interface_low i s) (omega arith) (omega arith) (omega arith)))
 placed_back (attach k p) f s =
-    same_filter attach _ k _ p (filter_header (attach k p) k _ (filter_fits k (key_interface k p s) f.0) refl)
+    same_filter attach _ k _ p (filter_header_lem (attach k p) k _ (filter_fits k (key_interface k p s) f.0) refl)
     (program_back 0x060D (filter_header k) p.descriptor p.name (omega (arith, program_descriptor k p s)) (name_short p.name (program_name k p s)) p.class f.1)
 placed_back (replace k p) f s =
-    same_filter replace _ k _ p (filter_header (replace k p) k _ (filter_fits k (key_interface k p s) f.0) refl)
+    same_filter replace _ k _ p (filter_header_lem (replace k p) k _ (filter_fits k (key_interface k p s) f.0) refl)
     (program_back 0x000D (filter_header k) p.descriptor p.name (omega (arith, program_descriptor k p s)) (name_short p.name (program_name k p s)) p.class f.1)
-placed_back (remove k) f s = ap remove (filter_header (remove k) k _ (filter_fits k (interface_low k.interface s) f) refl)
+placed_back (remove k) f s = ap remove (filter_header_lem (remove k) k _ (filter_fits k (interface_low k.interface s) f) refl)
 placed_back (list i p) f s =
     ap (λ (t : Tcmsg). list (header_key t).interface t.parent) (tcmsg_back (traffic_header i 0 p 0) (row_of (list i p)) (traffic_fits i _ _ _ (interface_low i s) (omega arith) f (omega arith)))

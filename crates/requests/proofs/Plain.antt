@@ -1,5 +1,5 @@
 -- Requests of a fixed length: nothing behind the family header, or the kind alone. Assumes nothing.
-use Rattle.std.proofs.Common.{◌≡◌, ℕ, ◌+◌, List, [], ◌∷◌, ◌++◌, length, sym, refl, ap, ◌∙◌}
+use Rattle.std.proofs.Common.{◌≡◌, ℕ, List, [], ◌∷◌, ◌++◌, length, refl}
 use Rattle.records.specs.Fields.{tcmsg_bytes}
 use Rattle.records.specs.declared.tcmsg.Tcmsg.{Tcmsg}
 use Rattle.requests.specs.Table.{clsact_items}

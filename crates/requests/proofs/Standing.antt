@@ -1,20 +1,19 @@
 -- What is written is laid out as the public documents have it. Assumes nothing.
-use Rattle.std.proofs.Common.{◌≡◌, ℕ, ◌+◌, ◌*◌, ◌/◌, ◌%◌, ◌^◌, ◌<◌, ◌≤◌, Bool, true, false, cond, eqb, ltb, ◌⊎◌, List, [], ◌∷◌, ◌++◌, map, length, take, drop, replicate, ℤ, IfOk, Some, None, Ok, Err, Option, Result, sym, refl, ap, ◌∙◌, subst, inl, inr, append_assoc, arith}
+use Rattle.std.proofs.Common.{◌≡◌, ℕ, ◌+◌, ◌^◌, ◌<◌, ◌≤◌, List, [], ◌∷◌, ◌++◌, map, length, take, drop, replicate, IfOk, Some, None, Ok, Err, Option, Result, sym, refl, ap, ◌∙◌, subst, inr, append_assoc, arith}
 use Rattle.std.specs.Option.{option_map}
 use Rattle.std.proofs.lemmas.List.{append-nil, length-append, length-replicate, take_at}
 use Rattle.std.proofs.lemmas.Bool.Decides.{nat_tests}
-use Rattle.records.specs.Words.{bytes2, bytes4, le2, le4}
-use Rattle.records.specs.Align.{padded, fill}
-use Rattle.records.specs.Fields.{ifinfomsg_bytes, tcmsg_bytes}
-use Rattle.records.specs.Layouts.{Attribute, AttributeAt, ZeroPaddedAt, ZeroPaddedRow, Chain, none, more, Message, MessageAt}
+use Rattle.records.specs.Words.{bytes2, bytes4}
+use Rattle.records.specs.Align.{fill}
+use Rattle.records.specs.Layouts.{Attribute, ZeroPaddedAt, ZeroPaddedRow, none, more, Message, MessageAt}
 use Rattle.records.specs.WordsLemmas.{half_back, word_back}
 use Rattle.requests.specs.declared.fault.ArgumentFault.{ArgumentFault}
 use Rattle.requests.specs.Asks.{Key, Program, Ask, set_xdp, add_clsact, attach, replace, remove, list}
-use Rattle.requests.specs.Table.{Item, value, nest, optional, type_of, flags_of, family_of, items_of, filter_header, program_items, bpf_items}
+use Rattle.requests.specs.Table.{Item, value, nest, optional, type_of, flags_of, family_of, items_of, filter_header, program_items}
 use Rattle.requests.specs.Bytes.{attribute_bytes, row_bytes, attribute_of, message_bytes, request_message, request_bytes, request_length, optional_length}
-use Rattle.requests.specs.Builders.{link_bytes, tc_bytes}
-use Rattle.requests.specs.Refusals.{argument_fault, program_fault, interface_fault, descriptor_fault, name_fault, has_zero, first, room_fault, unless, written, buffer}
-use Rattle.requests.specs.Stands.{Is, plain, nested, Are, none as no_items, more as more_items, Stands}
+use Rattle.requests.specs.Builders.{tc_bytes}
+use Rattle.requests.specs.Refusals.{argument_fault, program_fault, interface_fault, descriptor_fault, name_fault, first, room_fault, unless, written, buffer}
+use Rattle.requests.specs.Stands.{plain, nested, Are, none as no_items, more as more_items, Stands}
 use Rattle.requests.specs.declared.mode.XdpMode.{XdpMode}
 use Rattle.requests.proofs.Filters.{options_length, filter_length}
 
@@ -96,15 +95,15 @@ request_stands x s l t f =
     }
 
 -- how long each request is
-pub request_length : (x : Ask) → length (request_bytes x) ≡ request_length x
+pub request_length_lem : (x : Ask) → length (request_bytes x) ≡ request_length x
 unfolding request_bytes tc_bytes
-request_length (set_xdp i d None m) = refl
-request_length (set_xdp i d (Some e) m) = refl
-request_length (add_clsact i) = refl
-request_length (attach k p) = filter_length p.class p.descriptor p.name 1 0x060D (filter_header k)
-request_length (replace k p) = filter_length p.class p.descriptor p.name 1 0x000D (filter_header k)
-request_length (remove k) = refl
-request_length (list i p) = refl
+request_length_lem (set_xdp i d None m) = refl
+request_length_lem (set_xdp i d (Some e) m) = refl
+request_length_lem (add_clsact i) = refl
+request_length_lem (attach k p) = filter_length p.class p.descriptor p.name 1 0x060D (filter_header k)
+request_length_lem (replace k p) = filter_length p.class p.descriptor p.name 1 0x000D (filter_header k)
+request_length_lem (remove k) = refl
+request_length_lem (list i p) = refl
 
 -- what the checks leave
 pub first_none : (a b : Option ArgumentFault) → first a b ≡ None → (a ≡ None) × (b ≡ None)
@@ -151,19 +150,19 @@ xdp_small i d (Some e) m =
 
 pub stands : (x : Ask) → argument_fault x ≡ None → Stands (request_bytes x) x
 unfolding argument_fault ItemsSmall
-stands (set_xdp i d None m) e = request_stands (set_xdp i d None m) (xdp_small i d None m) (omega (arith, request_length (set_xdp i d None m))) (omega arith) (omega arith)
+stands (set_xdp i d None m) e = request_stands (set_xdp i d None m) (xdp_small i d None m) (omega (arith, request_length_lem (set_xdp i d None m))) (omega arith) (omega arith)
 stands (set_xdp i d (Some f) m) e =
-    request_stands (set_xdp i d (Some f) m) (xdp_small i d (Some f) m) (omega (arith, request_length (set_xdp i d (Some f) m))) (omega arith) (omega arith)
+    request_stands (set_xdp i d (Some f) m) (xdp_small i d (Some f) m) (omega (arith, request_length_lem (set_xdp i d (Some f) m))) (omega arith) (omega arith)
 stands (add_clsact i) e =
-    request_stands (add_clsact i) (record { len = omega arith; kind = omega arith }, tt) (omega (arith, request_length (add_clsact i))) (omega arith) (omega arith)
+    request_stands (add_clsact i) (record { len = omega arith; kind = omega arith }, tt) (omega (arith, request_length_lem (add_clsact i))) (omega arith) (omega arith)
 stands (attach k p) e =
     let h = name_short p.name (program_name k p e) in
-    request_stands (attach k p) (program_small p h) (omega (arith, request_length (attach k p), class_short p.class)) (omega arith) (omega arith)
+    request_stands (attach k p) (program_small p h) (omega (arith, request_length_lem (attach k p), class_short p.class)) (omega arith) (omega arith)
 stands (replace k p) e =
     let h = name_short p.name (program_name k p e) in
-    request_stands (replace k p) (program_small p h) (omega (arith, request_length (replace k p), class_short p.class)) (omega arith) (omega arith)
-stands (remove k) e = request_stands (remove k) tt (omega (arith, request_length (remove k))) (omega arith) (omega arith)
-stands (list i p) e = request_stands (list i p) tt (omega (arith, request_length (list i p))) (omega arith) (omega arith)
+    request_stands (replace k p) (program_small p h) (omega (arith, request_length_lem (replace k p), class_short p.class)) (omega arith) (omega arith)
+stands (remove k) e = request_stands (remove k) tt (omega (arith, request_length_lem (remove k))) (omega arith) (omega arith)
+stands (list i p) e = request_stands (list i p) tt (omega (arith, request_length_lem (list i p))) (omega arith) (omega arith)
 
 -- the answer, the buffer and the layout after a request is written
 abbrev pub Wrote : Ask → Result ℕ ArgumentFault → List ℕ → List ℕ → Type 0

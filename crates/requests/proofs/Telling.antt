@@ -1,10 +1,9 @@
 -- The message that tells of a filter: how long its parts are, and that its pieces are it. Assumes nothing.
-use Rattle.std.proofs.Common.{◌≡◌, ℕ, ◌+◌, ◌≤◌, List, [], ◌∷◌, ◌++◌, length, replicate, Some, None, Ok, Err, Option, Result, sym, refl, ap, ◌∙◌, arith}
+use Rattle.std.proofs.Common.{◌≡◌, ℕ, ◌+◌, ◌≤◌, List, [], ◌∷◌, ◌++◌, length, replicate, Some, None, Ok, Option, Result, sym, refl, ap, ◌∙◌, arith}
 use Rattle.std.proofs.lemmas.List.{length-append, append-nil}
 use Rattle.records.specs.Words.{bytes2}
 use Rattle.records.specs.Align.{padded, fill}
 use Rattle.records.specs.Fields.{tcmsg_bytes}
-use Rattle.records.specs.Layouts.{Attribute}
 use Rattle.records.specs.declared.tcmsg.Tcmsg.{Tcmsg}
 use Rattle.requests.specs.declared.fault.ArgumentFault.{ArgumentFault}
 use Rattle.requests.specs.Asks.{Key}

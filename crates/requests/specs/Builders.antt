@@ -1,9 +1,9 @@
 -- The bytes that each builder writes, for any family header and flags.
-use Rattle.std.specs.Prelude.{ℕ, List, [], ◌∷◌, ℤ, Option}
+use Rattle.std.specs.Prelude.{ℕ, List, ℤ, Option}
 use Rattle.records.specs.Fields.{ifinfomsg_bytes, tcmsg_bytes}
 use Rattle.records.specs.declared.ifinfomsg.Ifinfomsg.{Ifinfomsg}
 use Rattle.records.specs.declared.tcmsg.Tcmsg.{Tcmsg}
-use Rattle.requests.specs.Table.{Item, xdp_items, clsact_items, bpf_items}
+use Rattle.requests.specs.Table.{Item, xdp_items}
 use Rattle.requests.specs.Bytes.{message_bytes, request_message}
 
 unfoldable pub link_bytes : ℕ → Ifinfomsg → ℤ → ℕ → Option ℤ → List ℕ

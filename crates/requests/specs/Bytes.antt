@@ -1,5 +1,5 @@
 -- The bytes of a request.
-use Rattle.std.specs.Prelude.{ℕ, ◌+◌, ◌<◌, cond, ltb, List, [], ◌∷◌, ◌++◌, map, length, drop, replicate, Some, None, Option}
+use Rattle.std.specs.Prelude.{ℕ, ◌+◌, List, [], ◌∷◌, ◌++◌, map, length, replicate, Some, None, Option}
 use Rattle.records.specs.Words.{bytes2, bytes4}
 use Rattle.records.specs.Align.{padded, fill}
 use Rattle.records.specs.Layouts.{Attribute, Message}

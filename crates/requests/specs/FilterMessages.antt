@@ -1,5 +1,5 @@
 -- The message that tells of a filter, as a kernel sends it: in a listing, or as the echo of a request.
-use Rattle.std.specs.Prelude.{ℕ, ◌+◌, List, [], ◌∷◌, ◌++◌, length, Some, None, Option}
+use Rattle.std.specs.Prelude.{ℕ, List, [], ◌∷◌, ◌++◌, Some, None, Option}
 use Rattle.records.specs.Fields.{tcmsg_bytes}
 use Rattle.records.specs.Layouts.{Attribute, Message}
 use Rattle.requests.specs.declared.fault.ArgumentFault.{ArgumentFault}

@@ -1,5 +1,5 @@
 -- What a traffic control request does, as the builder holds it.
-use Rattle.std.specs.Prelude.{ℕ, List, [], Some, None, Option}
+use Rattle.std.specs.Prelude.{ℕ, List, [], None, Option}
 use Rattle.requests.specs.declared.fault.ArgumentFault.{ArgumentFault}
 use Rattle.requests.specs.declared.tc.TcOperation.{TcOperation}
 use Rattle.requests.specs.declared.tc.TcOperation.TheVariants.{DeleteFilter, GetFilter, Clsact, NewFilter}

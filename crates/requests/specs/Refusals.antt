@@ -1,9 +1,8 @@
 -- When a request is not written, and what a buffer holds afterwards.
-use Rattle.std.specs.Prelude.{ℕ, ◌<◌, Bool, true, false, cond, ◌||◌, List, [], ◌∷◌, ◌++◌, length, drop, Some, None, Ok, Err, Option, Result, ◌==◌, nat_lt}
+use Rattle.std.specs.Prelude.{ℕ, Bool, false, cond, ◌||◌, List, [], ◌∷◌, ◌++◌, length, drop, Some, None, Ok, Err, Option, Result, ◌==◌, nat_lt}
 use Rattle.requests.specs.declared.fault.ArgumentFault.{ArgumentFault}
 use Rattle.requests.specs.declared.fault.ArgumentFault.TheVariants.{Interface, Descriptor, ZeroInName, LongName, ShortBuffer}
 use Rattle.requests.specs.Asks.{Key, Program, Ask, set_xdp, add_clsact, attach, replace, remove, list}
-use Rattle.requests.specs.Bytes.{request_bytes, request_length}
 
 -- the number of each fault
 abbrev pub number : ArgumentFault → ℕ

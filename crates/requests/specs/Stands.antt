@@ -1,6 +1,6 @@
 -- That a request is laid out as netlink(7) and rtnetlink(7) have it.
-use Rattle.std.specs.Prelude.{◌≡◌, ℕ, ◌+◌, List, [], ◌∷◌, ◌++◌}
-use Rattle.records.specs.Layouts.{Attribute, ZeroPaddedRow, Message, MessageAt}
+use Rattle.std.specs.Prelude.{ℕ, ◌+◌, List, [], ◌∷◌, ◌++◌}
+use Rattle.records.specs.Layouts.{Attribute, ZeroPaddedRow, MessageAt}
 use Rattle.requests.specs.Asks.{Ask}
 use Rattle.requests.specs.Table.{Item, value, nest, type_of, flags_of, family_of, items_of}
 

@@ -54,7 +54,7 @@ impl Bpf<()> {
 
 impl<C: Optional<u32>> Bpf<C> {
     fn class_word(&self) -> Option<u32>
-        ensures { result ≡ value self.now.classid }
+        ensures { result ≡ C.value self.now.classid }
     {
         match self.classid.as_ref() {
             Some(class) => Some(*class),
@@ -65,7 +65,7 @@ impl<C: Optional<u32>> Bpf<C> {
     // How many bytes the options take with their header: the name with its zero is padded to a multiple of 4.
     fn options_len(&self, name: &[u8]) -> u16
         requires { length name.now ≤ 256 }
-        ensures { result ≡ 24 + optional_length (value self.now.classid) + padded (length name.now + 1) }
+        ensures { result ≡ 24 + optional_length (C.value self.now.classid) + padded (length name.now + 1) }
     {
         24 + optional_len(self.class_word()) + align(name.len() as u32 + 1) as u16
     }
@@ -79,9 +79,9 @@ impl<C: Optional<u32>> Bpf<C> {
         name: &[u8],
         out: &mut [u8],
     ) -> usize
-        requires { (nested ≡ 24 + optional_length (value self.now.classid) + padded (length name.now + 1)) × ((44 + nested ≤ length out.old) × (length name.now ≤ 256)) }
+        requires { (nested ≡ 24 + optional_length (C.value self.now.classid) + padded (length name.now + 1)) × ((44 + nested ≤ length out.old) × (length name.now ≤ 256)) }
         ensures end { result ≡ 44 + nested }
-        ensures puts { Puts out.old out.new 0 result (tc_bytes 44 flags family_header.now (bpf_items (value self.now.classid) self.now.fd name.now self.now.flags)) }
+        ensures puts { Puts out.old out.new 0 result (tc_bytes 44 flags family_header.now (bpf_items (C.value self.now.classid) self.now.fd name.now self.now.flags)) }
     {
         let header = Nlattr {
             len: nested,
@@ -111,8 +111,8 @@ impl<C: Optional<u32>> Bpf<C> {
         name: &[u8],
         out: &mut [u8],
     ) -> Result<usize, ArgumentFault>
-        ensures result { result ≡ written (name_fault name.now) (tc_bytes 44 flags family_header.now (bpf_items (value self.now.classid) self.now.fd name.now self.now.flags)) (length out.old) }
-        ensures after { out.new ≡ buffer result (tc_bytes 44 flags family_header.now (bpf_items (value self.now.classid) self.now.fd name.now self.now.flags)) out.old }
+        ensures result { result ≡ written (name_fault name.now) (tc_bytes 44 flags family_header.now (bpf_items (C.value self.now.classid) self.now.fd name.now self.now.flags)) (length out.old) }
+        ensures after { out.new ≡ buffer result (tc_bytes 44 flags family_header.now (bpf_items (C.value self.now.classid) self.now.fd name.now self.now.flags)) out.old }
     {
         check_name(name)?;
         let nested = self.options_len(name);

@@ -47,8 +47,8 @@ impl Link<()> {
 impl<E: Optional<i32>> Link<Xdp<E>> {
     // Writes the request at the front of a buffer and says how long it is. A buffer that is too short is left as it was.
     pub fn write(&self, flags: u16, out: &mut [u8]) -> Result<usize, ArgumentFault>
-        ensures result { result ≡ fitted (link_bytes flags self.now.family_header self.now.xdp.fd self.now.xdp.flags (value self.now.xdp.expected_fd)) (length out.old) }
-        ensures after { out.new ≡ buffer result (link_bytes flags self.now.family_header self.now.xdp.fd self.now.xdp.flags (value self.now.xdp.expected_fd)) out.old }
+        ensures result { result ≡ fitted (link_bytes flags self.now.family_header self.now.xdp.fd self.now.xdp.flags (E.value self.now.xdp.expected_fd)) (length out.old) }
+        ensures after { out.new ≡ buffer result (link_bytes flags self.now.family_header self.now.xdp.fd self.now.xdp.flags (E.value self.now.xdp.expected_fd)) out.old }
     {
         self.xdp.write(flags, &self.family_header, out)
     }
@@ -92,8 +92,8 @@ impl Xdp<()> {
 impl<E: Optional<i32>> Xdp<E> {
     // The expected descriptor as its 32 bits.
     fn expected_word(&self) -> Option<u32>
-        ensures word { result ≡ option_map (of_z w32) (value self.now.expected_fd) }
-        ensures len { optional_length result ≡ optional_length (value self.now.expected_fd) }
+        ensures word { result ≡ option_map (of_z w32) (E.value self.now.expected_fd) }
+        ensures len { optional_length result ≡ optional_length (E.value self.now.expected_fd) }
     {
         match self.expected_fd.as_ref() {
             Some(fd) => Some(fd.cast_unsigned()),
@@ -107,8 +107,8 @@ impl<E: Optional<i32>> Xdp<E> {
         family_header: &Ifinfomsg,
         out: &mut [u8],
     ) -> Result<usize, ArgumentFault>
-        ensures result { result ≡ fitted (link_bytes flags family_header.now self.now.fd self.now.flags (value self.now.expected_fd)) (length out.old) }
-        ensures after { out.new ≡ buffer result (link_bytes flags family_header.now self.now.fd self.now.flags (value self.now.expected_fd)) out.old }
+        ensures result { result ≡ fitted (link_bytes flags family_header.now self.now.fd self.now.flags (E.value self.now.expected_fd)) (length out.old) }
+        ensures after { out.new ≡ buffer result (link_bytes flags family_header.now self.now.fd self.now.flags (E.value self.now.expected_fd)) out.old }
     {
         let nested = self.nested_len();
         check_room(out.len(), 32 + usize::from(nested))?;
@@ -117,16 +117,16 @@ impl<E: Optional<i32>> Xdp<E> {
 
     // How many bytes the nested attribute takes with its header.
     fn nested_len(&self) -> u16
-        ensures { result ≡ 20 + optional_length (value self.now.expected_fd) }
+        ensures { result ≡ 20 + optional_length (E.value self.now.expected_fd) }
     {
         20 + optional_len(self.expected_word())
     }
 
     // Writes the whole request, whose nested attributes take `nested` bytes.
     fn put_link(&self, nested: u16, flags: u16, family_header: &Ifinfomsg, out: &mut [u8]) -> usize
-        requires { (nested ≡ 20 + optional_length (value self.now.expected_fd)) × (32 + nested ≤ length out.old) }
+        requires { (nested ≡ 20 + optional_length (E.value self.now.expected_fd)) × (32 + nested ≤ length out.old) }
         ensures end { result ≡ 32 + nested }
-        ensures puts { Puts out.old out.new 0 result (link_bytes flags family_header.now self.now.fd self.now.flags (value self.now.expected_fd)) }
+        ensures puts { Puts out.old out.new 0 result (link_bytes flags family_header.now self.now.fd self.now.flags (E.value self.now.expected_fd)) }
     {
         let header = Nlattr {
             len: nested,

@@ -40,9 +40,9 @@ pub(crate) fn put(out: &mut [u8], at: usize, piece: &[u8]) -> usize
 
 // Writes a record.
 pub(crate) fn put_record<R: Record>(out: &mut [u8], at: usize, record: &R) -> usize
-    requires { at + wide ≤ length out.old }
-    ensures end { result ≡ at + wide }
-    ensures puts { Puts out.old out.new at result (bytes «record».now) }
+    requires { at + R.wide ≤ length out.old }
+    ensures end { result ≡ at + R.wide }
+    ensures puts { Puts out.old out.new at result (R.bytes «record».now) }
 {
     let Some(end) = write(record, out, at) else {
         unreachable()
@@ -115,9 +115,9 @@ pub(crate) fn put_headers<F: Record>(
     flags: u16,
     family: &F,
 ) -> usize
-    requires { 16 + wide ≤ length out.old }
-    ensures end { result ≡ 16 + wide }
-    ensures puts { Puts out.old out.new 0 result (bytes4 len ++ (bytes2 kind ++ (bytes2 flags ++ (bytes4 sequence ++ (bytes4 0 ++ bytes family.now))))) }
+    requires { 16 + F.wide ≤ length out.old }
+    ensures end { result ≡ 16 + F.wide }
+    ensures puts { Puts out.old out.new 0 result (bytes4 len ++ (bytes2 kind ++ (bytes2 flags ++ (bytes4 sequence ++ (bytes4 0 ++ F.bytes family.now))))) }
 {
     let header = Nlmsghdr {
         len,

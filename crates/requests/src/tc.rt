@@ -92,8 +92,8 @@ impl<C: Optional<u32>> Tc<C> {
     // Writes the request at the front of a buffer and says how long it is. `name` is lent for the program of a new
     // filter; the other requests have none and do not look at it. What is refused leaves the buffer as it was.
     pub fn write(&self, flags: u16, name: &[u8], out: &mut [u8]) -> Result<usize, ArgumentFault>
-        ensures result { result ≡ written (operation_fault self.now.operation name.now) (tc_bytes (operation_type self.now.operation) flags self.now.family_header (operation_items value self.now.operation name.now)) (length out.old) }
-        ensures after { out.new ≡ buffer result (tc_bytes (operation_type self.now.operation) flags self.now.family_header (operation_items value self.now.operation name.now)) out.old }
+        ensures result { result ≡ written (operation_fault self.now.operation name.now) (tc_bytes (operation_type self.now.operation) flags self.now.family_header (operation_items C.value self.now.operation name.now)) (length out.old) }
+        ensures after { out.new ≡ buffer result (tc_bytes (operation_type self.now.operation) flags self.now.family_header (operation_items C.value self.now.operation name.now)) out.old }
     {
         match &self.operation {
             TcOperation::DeleteFilter => write_bare(

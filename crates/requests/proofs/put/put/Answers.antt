@@ -6,6 +6,6 @@ pub returns : goal.returns
 returns c =
     let before = c.args.out.now in
     let piece = c.args.piece.now in
-    let last = c.copy-from-slice.new.self in
+    let last = c.copy_from_slice.new.self in
     let at = c.args.at in
-    record { end = refl; puts = puts_piece before _ piece at (length piece) refl (copied before piece last at c.copy-from-slice.ensures.after) }
+    record { end = refl; puts = puts_piece before _ piece at (length piece) refl (copied before piece last at c.copy_from_slice.ensures.after) }

@@ -5,6 +5,6 @@ use Rattle.requests.proofs.put.put_headers.Goals as goal
 pub returns : goal.returns
 returns g c =
     record {
-      end = omega (arith, c.put-record.ensures.end, c.put-record-at.ensures.end);
-      puts = puts_both _ _ _ _ _ 0 _ _ c.put-record-at.ensures.puts c.put-record.ensures.puts;
+      end = omega (arith, c.put_record.ensures.end, c.put_record-at.ensures.end);
+      puts = puts_both _ _ _ _ _ 0 _ _ c.put_record-at.ensures.puts c.put_record.ensures.puts;
     }

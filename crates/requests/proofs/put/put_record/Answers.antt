@@ -1,10 +1,10 @@
-use Rattle.std.proofs.Common.{◌≡◌, ℕ, sym, subst, arith}
+use Rattle.std.proofs.Common.{ℕ, sym, subst, arith}
 use Rattle.requests.specs.Writing.{Puts}
 use Rattle.requests.proofs.Putting.{puts_piece}
 use Rattle.requests.proofs.put.put_record.Goals as goal
 
 pub unreachable-requires : goal.unreachable-requires
-unreachable-requires g c = omega (arith, c.in-default.ensures.0, c.requires)
+unreachable-requires g c = omega (arith, c.in_default.ensures.0, c.requires)
 
 pub returns : goal.returns
 returns g c =

@@ -1,4 +1,4 @@
-use Rattle.std.proofs.Common.{◌≡◌, sym, ap, ◌∙◌, rules}
+use Rattle.std.proofs.Common.{sym, ap, ◌∙◌, rules}
 use Rattle.std.proofs.lemmas.List.{take_more_set}
 use Rattle.reader.specs.Replies.{said, kept}
 use Rattle.reader.proofs.Pushing.{pushed_room}

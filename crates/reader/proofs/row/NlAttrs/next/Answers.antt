@@ -1,19 +1,19 @@
-use Rattle.std.proofs.Common.{◌≡◌, sym, ap, ◌∙◌, rules}
+use Rattle.std.proofs.Common.{sym, ap, ◌∙◌, rules}
 use Rattle.records.specs.Align.{padded}
 use Rattle.reader.specs.Walks.{remaining}
 use Rattle.reader.proofs.Attributing.{none_left, cut_front, length_front, past_front, attr_front}
 use Rattle.reader.proofs.row.NlAttrs.next.Goals as goal
 
-pub returns-then-is-empty : goal.returns-then-is-empty
-returns-then-is-empty c =
+pub returns-then-is_empty : goal.returns-then-is_empty
+returns-then-is_empty c =
     let b = c.args.self.now.rest.now in
     let e = none_left b (search rules) in
     record { step = e; left = ap (remaining b) (sym e) }
 
-pub returns-in-default : goal.returns-in-default
-returns-in-default c =
+pub returns-in_default : goal.returns-in_default
+returns-in_default c =
     let b = c.args.self.now.rest.now in
-    let e = cut_front b (search rules) c.in-default.ensures in
+    let e = cut_front b (search rules) c.in_default.ensures in
     record { step = e; left = ap (remaining b) (sym e) }
 
 pub returns-then-len-lt4 : goal.returns-then-len-lt4

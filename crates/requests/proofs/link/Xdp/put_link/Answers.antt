@@ -1,4 +1,4 @@
-use Rattle.std.proofs.Common.{◌≡◌, ℕ, ◌+◌, ap, ◌∙◌, arith, w32, SFits, of_z, rules}
+use Rattle.std.proofs.Common.{ℕ, ◌+◌, ap, ◌∙◌, arith, w32, SFits, of_z, rules}
 use Rattle.std.proofs.lemmas.Int.{to_z-of_z}
 use Rattle.requests.proofs.Built.{link_puts}
 use Rattle.requests.proofs.link.Xdp.put_link.Goals as goal
@@ -12,15 +12,15 @@ returns g c =
       end = omega (
         arith,
         c.requires.0,
-        c.expected-word.ensures.len,
-        c.put-optional.ensures.end,
-        c.put-word-at-2.ensures.end,
-        c.put-word-at.ensures.end,
-        c.put-record-at.ensures.end,
-        c.put-headers-at.ensures.end,
+        c.expected_word.ensures.len,
+        c.put_optional.ensures.end,
+        c.put_word-at-2.ensures.end,
+        c.put_word-at.ensures.end,
+        c.put_record-at.ensures.end,
+        c.put_headers-at.ensures.end,
       );
-      puts = link_puts out _ _ _ _ c.put-optional.new.out _ _ _ _ c.put-optional.result c.args.flags c.args.family-header.now x.fd x.flags
-          (g.E.Optional.value x.expected_fd) _ c.args.nested _ c.expected-word.result c.expected-word.ensures.word c.requires.0
-          (ap (λ (k : ℕ). 32 + k) c.from.ensures) (c.cast-unsigned.ensures ∙ ap (of_z w32) (to_z-of_z w32 x.fd f)) c.put-headers-at.ensures.puts
-          c.put-record-at.ensures.puts c.put-word-at.ensures.puts c.put-word-at-2.ensures.puts c.put-optional.ensures.puts;
+      puts = link_puts out _ _ _ _ c.put_optional.new.out _ _ _ _ c.put_optional.result c.args.flags c.args.family_header.now x.fd x.flags
+          (g.E.Optional.value x.expected_fd) _ c.args.nested _ c.expected_word.result c.expected_word.ensures.word c.requires.0
+          (ap (λ (k : ℕ). 32 + k) c.from.ensures) (c.cast_unsigned.ensures ∙ ap (of_z w32) (to_z-of_z w32 x.fd f)) c.put_headers-at.ensures.puts
+          c.put_record-at.ensures.puts c.put_word-at.ensures.puts c.put_word-at-2.ensures.puts c.put_optional.ensures.puts;
     }

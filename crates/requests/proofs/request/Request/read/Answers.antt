@@ -1,10 +1,10 @@
-use Rattle.std.proofs.Common.{◌≡◌, Some, ap}
+use Rattle.std.proofs.Common.{Some, ap}
 use Rattle.requests.specs.Asks.{asks}
 use Rattle.requests.proofs.Finding.{not_refused, is_written, not_other}
 use Rattle.requests.proofs.request.Request.read.Goals as goal
 
-pub returns-in-default-write : goal.returns-in-default-write
-returns-in-default-write c = record { some = tt; each = λ x w. absurd (not_refused c.args.bytes.now (asks c.in-Some.request) c.in-Some.ensures.0 c.in-default-write.field-0 c.in-default-write.ensures.result x w) }
+pub returns-in_default-write : goal.returns-in_default-write
+returns-in_default-write c = record { some = tt; each = λ x w. absurd (not_refused c.args.bytes.now (asks c.in-Some.request) c.in-Some.ensures.0 c.in_default-write.field-0 c.in_default-write.ensures.result x w) }
 
 pub returns-then-same : goal.returns-then-same
 returns-then-same c =
