@@ -1,4 +1,4 @@
-ghost use Rattle.std.specs.Prelude.{◌≡◌, true};
+ghost use Rattle.std.specs.Prelude.{◌≡◌, true, false, IsTrue};
 ghost use Rattle.reader.specs.Datagrams.{messages};
 ghost use Rattle.reader.specs.Replies.{at, heeded, onwards, took, closing, closed, read_of, over};
 ghost use Rattle.reader.specs.declared.stage.Stage.TheVariants.{Going};
@@ -15,19 +15,22 @@ const NLM_F_MULTI: u16 = 2;
 const LONGEST: usize = 4096;
 
 // A request and its reply. It is begun with a request that was written, takes the datagrams of the reply one by one, and is closed as
-// unsent, as receive failed, or as read. It cannot be let go otherwise: no one can meet what its `drop` asks.
+// unsent, as receive failed, or as read. It cannot be let go otherwise: its `drop` asks that it is spent, and only the three calls that
+// close it, which do not hand it back, make it so.
 pub struct Turn {
     stage: Stage,
     request: usize,
+    spent: bool,
 }
 
 impl Drop for Turn {
     fn drop(self)
-        requires { ⊥ }
+        requires { IsTrue self.spent }
     {
         let Turn {
             stage: _,
             request: _,
+            spent: _,
         } = self;
     }
 }
@@ -35,11 +38,12 @@ impl Drop for Turn {
 impl Turn {
     // Begins a turn for a request of so many bytes.
     pub fn begin(request: usize) -> Turn
-        ensures { result ≡ record { stage = Going; request = request } }
+        ensures { result ≡ record { stage = Going; request = request; spent = false } }
     {
         Turn {
             stage: Stage::Going,
             request,
+            spent: false,
         }
     }
 
@@ -54,28 +58,28 @@ impl Turn {
     }
 
     // Closes a turn whose request was not sent.
-    pub fn unsent(self) -> usize
+    pub fn unsent(mut self) -> usize
         ensures { result ≡ self.request }
     {
-        let Turn { stage: _, request } = self;
-        request
+        self.spent = true;
+        self.request
     }
 
     // Closes a turn whose reply could not be received to its end.
-    pub fn receive_failed(self) -> usize
+    pub fn receive_failed(mut self) -> usize
         ensures { result ≡ self.request }
     {
-        let Turn { stage: _, request } = self;
-        request
+        self.spent = true;
+        self.request
     }
 
     // Closes a turn as read, with the fault that its reply came to, or 12 if it has not ended.
-    pub fn read(self) -> Result<usize, TurnFault>
+    pub fn read(mut self) -> Result<usize, TurnFault>
         ensures { result ≡ read_of self.stage self.request }
     {
-        let Turn { stage, request } = self;
-        match stage {
-            Stage::Ended => Ok(request),
+        self.spent = true;
+        match self.stage {
+            Stage::Ended => Ok(self.request),
             Stage::Faulted(fault) => Err(fault),
             Stage::Going => Err(TurnFault::Early),
         }
@@ -85,6 +89,7 @@ impl Turn {
     fn heed<S: Sink>(&mut self, class: Class, payload: &[u8], sink: &mut S)
         ensures state { at self.new.stage (S.Sink.view sink.new) ≡ heeded S.Sink.fed self.old.stage (S.Sink.view sink.old) class payload.now }
         ensures request { self.new.request ≡ self.old.request }
+        ensures spent { self.new.spent ≡ self.old.spent }
     {
         match (class, self.stage) {
             (_, Stage::Ended | Stage::Faulted(_)) => {}
@@ -103,6 +108,7 @@ impl Turn {
     fn walk<S: Sink>(&mut self, datagram: &[u8], sink: &mut S) -> Result<bool, MessageFault>
         ensures state { onwards S.Sink.fed (at self.old.stage (S.Sink.view sink.old)) true (messages datagram.now) ≡ closed (at self.new.stage (S.Sink.view sink.new)) result }
         ensures request { self.new.request ≡ self.old.request }
+        ensures spent { self.new.spent ≡ self.old.spent }
     {
         let mut messages = Messages::new(datagram);
         let mut multi = true;
@@ -119,6 +125,7 @@ impl Turn {
     fn close(&mut self, read: Result<bool, MessageFault>)
         ensures stage { self.new.stage ≡ closing self.old.stage read }
         ensures request { self.new.request ≡ self.old.request }
+        ensures spent { self.new.spent ≡ self.old.spent }
     {
         match (read, self.stage) {
             (_, Stage::Ended | Stage::Faulted(_)) => {}
@@ -132,6 +139,7 @@ impl Turn {
     pub fn take<S: Sink>(&mut self, datagram: &[u8], sink: &mut S)
         ensures state { at self.new.stage (S.Sink.view sink.new) ≡ took S.Sink.fed (at self.old.stage (S.Sink.view sink.old)) datagram.now }
         ensures request { self.new.request ≡ self.old.request }
+        ensures spent { self.new.spent ≡ self.old.spent }
     {
         let read = if datagram.len() > LONGEST {
             Err(MessageFault::Long(datagram.len()))

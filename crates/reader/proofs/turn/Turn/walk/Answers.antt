@@ -15,6 +15,7 @@ loop-next-preserved g c =
       walk_more g.S.Sink.fed _ _ _ _ _ _ _ _ c.loop-next.invariant.0 came
           (c.heed.ensures.state ∙ ap (λ k. heeded g.S.Sink.fed c.loop-next.self.stage (g.S.Sink.view c.loop-next.sink) k c.in_ok-message.message.data.now) c.class_of-class.ensures) refl,
       c.heed.ensures.request ∙ c.loop-next.invariant.1,
+      c.heed.ensures.spent ∙ c.loop-next.invariant.2,
     )
 
 pub returns-in_err-message : goal.returns-in_err-message
@@ -25,6 +26,7 @@ returns-in_err-message g c =
     record {
       state = walk_fault g.S.Sink.fed _ _ _ _ _ c.loop-next.invariant.0 e ∙ ap (λ x. closed s (Err x)) (sym p.2) ∙ ap (closed s) (sym p.1);
       request = c.loop-next.invariant.1;
+      spent = c.loop-next.invariant.2;
     }
 
 pub returns : goal.returns
@@ -32,4 +34,5 @@ returns g c =
     record {
       state = walk_end g.S.Sink.fed _ _ _ _ c.loop-next.invariant.0 c.in_default.ensures.step;
       request = c.loop-next.invariant.1;
+      spent = c.loop-next.invariant.2;
     }

@@ -9,6 +9,7 @@ invariant-loop-next g l =
     Walks g.S.Sink.fed (onwards g.S.Sink.fed (at l.initial.self.stage (g.S.Sink.view l.initial.sink)) true (messages l.datagram))
     (at l.self.stage (g.S.Sink.view l.sink)) l.multi l.messages.rest.now
     × (l.self.request ≡ l.initial.self.request)
+    × (l.self.spent ≡ l.initial.self.spent)
 
 abbrev pub decreases-loop-next : goal.decreases-loop-next
 decreases-loop-next g l = length l.messages.rest.now
