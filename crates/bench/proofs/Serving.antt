@@ -1,6 +1,6 @@
 -- Replies are whole datagrams, whatever they are made of. Assumes nothing.
 use Rattle.std.proofs.Common.{◌≡◌, ℕ, ◌^◌, ◌<◌, ◌≤◌, true, List, [], ◌∷◌, ◌++◌, ℤ, ap, ◌∙◌, arith}
-use Rattle.std.specs.List.{AllByRecursion as All}
+use Rattle.std.specs.List.{AllByRecursion}
 use Rattle.std.proofs.ByRecursion.{all_kept_by}
 use Rattle.queue.specs.Cuts.{bulk, joined}
 use Rattle.hosts.specs.Meaning.{Filter}
@@ -16,7 +16,7 @@ whole_answer q s vs ws z e = ap (λ (x : List (List ℕ)). all_datagrams x) (e �
 pub whole_echo : (flags : ℕ) (f : Filter) (q : List ℕ) (s : ℤ) (ws : List (List ℕ)) → flags < 2 ^ 16 → Stands f → ws ≡ told_bytes flags f ∷ answer_bytes q s ∷ [] → all_datagrams ws ≡ true
 whole_echo flags f q s ws h st e = ap (λ (x : List (List ℕ)). all_datagrams x) e ∙ cut_whole _ _ (cut_echo flags f q s h st)
 
-pub whole_listing : (i p : ℕ) (fs : List Filter) (ws : List (List ℕ)) → All Stands fs → ws ≡ listing i p fs → all_datagrams ws ≡ true
+pub whole_listing : (i p : ℕ) (fs : List Filter) (ws : List (List ℕ)) → AllByRecursion Stands fs → ws ≡ listing i p fs → all_datagrams ws ≡ true
 whole_listing i p fs ws a e = ap (λ (x : List (List ℕ)). all_datagrams x) e ∙ cut_whole _ _ (cut_listing _ (all_kept_by (is_under i p) Stands fs a))
 
 pub echo_bulk : (flags : ℕ) (f : Filter) (vs ws : List (List ℕ)) → Stands f → vs ≡ [] → ws ≡ joined vs (told_bytes flags f) → bulk ws ≤ 16000

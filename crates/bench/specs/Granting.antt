@@ -1,7 +1,7 @@
 -- The key that an attach gets. Assumes nothing.
 use Rattle.std.specs.Prelude.{◌≡◌, ℕ, Bool, true, false, cond, ◌&&◌, ◌||◌, List, [], ◌∷◌, Some, None, Option, ◌==◌, nat_le, refl}
 use Rattle.std.proofs.Common.{sym, ap, subst, ◌∙◌, arith}
-use Rattle.std.specs.List.{AllByRecursion as All}
+use Rattle.std.specs.List.{AllByRecursion}
 use Rattle.std.specs.Str.{bytes_eq}
 use Rattle.std.proofs.lemmas.Bool.Decides.{nat_tests}
 use Rattle.requests.specs.Asks.{Key}
@@ -43,7 +43,7 @@ granted_stands k fs name e = by (k.handle == 0) refl
     by false q = stands_by (prioritized k) name parts.0 (some_priority k.priority) (grind (arith, nat_tests)) parts.1
 
 -- a key that a filter has is one that can stand
-pub held_stands : (k : Key) (fs : List Filter) (name : List ℕ) → All Stands fs → is_bpf k fs ≡ true → name_fault name ≡ None → is_filter k bpf (Some name) ≡ true
+pub held_stands : (k : Key) (fs : List Filter) (name : List ℕ) → AllByRecursion Stands fs → is_bpf k fs ≡ true → name_fault name ≡ None → is_filter k bpf (Some name) ≡ true
 held_stands k [] name a b n = let z : ◌≡◌ {A = ℕ} 0 1 = cc in absurd (omega arith)
 held_stands k (f ∷ fs) name a b n = by (same_key k f.key) refl b (λ c. held_stands k fs name a.1 c n)
   where

@@ -1,7 +1,7 @@
 -- What the bench host replies is datagrams of whole messages. Assumes nothing.
 use Rattle.std.specs.Prelude.{◌≡◌, ℕ, ◌+◌, ◌*◌, ◌%◌, ◌^◌, ◌<◌, ◌≤◌, Bool, true, not, ◌&&◌, leb, List, [], ◌∷◌, ◌++◌, map, length, drop, ℤ, Some, None, fold, Option, nat_le, refl}
 use Rattle.std.proofs.Common.{sym, ap, subst, inl, inr, append_assoc, arith}
-use Rattle.std.specs.List.{AllByRecursion as All}
+use Rattle.std.specs.List.{AllByRecursion}
 use Rattle.std.proofs.lemmas.List.{append-nil, length-append}
 use Rattle.std.proofs.lemmas.Bool.{le-leb, leb-true, eq-eqb, cond_both, and_parts, and_from, or_left, or_right, not-true, both_ways}
 use Rattle.records.specs.Words.{bytes2, bytes4}
@@ -170,7 +170,7 @@ cut_echo flags f q s h t =
     more_cut (begins_whole (told_bytes flags f) (told flags f ∷ []) (begins_told flags f h t)) (omega (arith, (told_long flags f t).1)) (cut_answer q s)
 
 -- a listing
-told_pages : (fs : List Filter) (ws : List (List ℕ)) (ms : List Message) → All Stands fs → Pages ws ms →
+told_pages : (fs : List Filter) (ws : List (List ℕ)) (ms : List Message) → AllByRecursion Stands fs → Pages ws ms →
     Pages (fold joined ws (map (told_bytes 2) fs)) (ms ++ map (told 2) fs)
 told_pages [] ws ms a c = subst (Pages ws) (sym (append-nil ms)) c
 told_pages (f ∷ fs) ws ms a c =
@@ -178,7 +178,7 @@ told_pages (f ∷ fs) ws ms a c =
     (told_pages fs (joined ws (told_bytes 2 f)) (ms ++ told 2 f ∷ []) a.1
     (joined_pages ws ms (told_bytes 2 f) (told 2 f) c (begins_told 2 f (omega arith) a.0) (omega (arith, (told_long 2 f a.0).1))))
 
-pub cut_listing : (fs : List Filter) → All Stands fs → Cut (pages (map (told_bytes 2) fs) ++ (done_bytes ∷ [])) (map (told 2) fs ++ (done ∷ []))
+pub cut_listing : (fs : List Filter) → AllByRecursion Stands fs → Cut (pages (map (told_bytes 2) fs) ++ (done_bytes ∷ [])) (map (told 2) fs ++ (done ∷ []))
 cut_listing fs a =
     cut_append (pages (map (told_bytes 2) fs)) (done_bytes ∷ []) (map (told 2) fs) (done ∷ []) (pages_cut _ _ (told_pages fs [] [] a blank)) cut_done
 
@@ -190,7 +190,7 @@ joined_bulk (d ∷ []) m =
     (λ e. omega (arith, length-append d m)) (λ e. omega arith)
 joined_bulk (d ∷ e ∷ ds) m = let i = joined_bulk (e ∷ ds) m in omega arith
 
-told_bulk : (fs : List Filter) (ws : List (List ℕ)) → All Stands fs → bulk (fold joined ws (map (told_bytes 2) fs)) ≤ bulk ws + 324 * length fs
+told_bulk : (fs : List Filter) (ws : List (List ℕ)) → AllByRecursion Stands fs → bulk (fold joined ws (map (told_bytes 2) fs)) ≤ bulk ws + 324 * length fs
 told_bulk [] ws a = omega arith
 told_bulk (f ∷ fs) ws a =
     let i = told_bulk fs (joined ws (told_bytes 2 f)) a.1 in
@@ -198,7 +198,7 @@ told_bulk (f ∷ fs) ws a =
     let t = (told_long 2 f a.0).1 in
     omega arith
 
-pub listing_bulk : (fs : List Filter) → All Stands fs → length fs ≤ 32 → bulk (pages (map (told_bytes 2) fs)) + 20 ≤ 16384
+pub listing_bulk : (fs : List Filter) → AllByRecursion Stands fs → length fs ≤ 32 → bulk (pages (map (told_bytes 2) fs)) + 20 ≤ 16384
 listing_bulk fs a h = omega (arith, told_bulk fs [] a)
 
 -- the test of a datagram
@@ -223,7 +223,7 @@ datagram_from d [] stop e t h = let z : ◌≡◌ {A = ℕ} 0 1 = cc in absurd (
 datagram_from d (m ∷ ms) clean e t h = record { first = m; others = ms; stands = (messages_read d (m ∷ ms)).1 e; short = h }
 datagram_from d (m ∷ ms) (broken f) e t h = let z : ◌≡◌ {A = ℕ} 0 1 = cc in absurd (omega arith)
 
-pub whole_all : (ws : List (List ℕ)) → all_datagrams ws ≡ true → All Datagram ws
+pub whole_all : (ws : List (List ℕ)) → all_datagrams ws ≡ true → AllByRecursion Datagram ws
 whole_all [] p = tt
 whole_all (d ∷ ws) p =
     let r = and_parts (is_datagram d) (all_datagrams ws) p in

@@ -1,7 +1,7 @@
 -- The bench host keeps the rules. Assumes nothing.
 use Rattle.std.specs.Prelude.{◌≡◌, ℕ, ◌^◌, ◌<◌, ◌≤◌, Bool, true, false, cond, ◌&&◌, ◌||◌, List, [], ◌∷◌, ◌++◌, map, length, drop, ℤ, pos, negsuc, None, Ok, Err, Option, ◌==◌, ◌≢◌, nat_le, refl}
 use Rattle.std.proofs.Common.{sym, ap, subst, ◌∙◌, inl, inr, arith}
-use Rattle.std.specs.List.{AllByRecursion as All, range_with_len}
+use Rattle.std.specs.List.{AllByRecursion, range_with_len}
 use Rattle.std.specs.Str.{bytes_eq}
 use Rattle.std.proofs.ByRecursion.{all_kept_by}
 use Rattle.std.proofs.lemmas.Slice.Eq.{bytes_eq-Decides}
@@ -33,7 +33,7 @@ use Rattle.bench.specs.Granting.{granted_stands, held_stands}
 use Rattle.bench.specs.Asked.{attach_fault, replace_fault}
 
 -- what a host's lists always are
-pub meant : (fs : List Filter) (ws : List (List ℕ)) → All Stands fs → distinct fs ≡ true → all_datagrams ws ≡ true → Meant fs ws
+pub meant : (fs : List Filter) (ws : List (List ℕ)) → AllByRecursion Stands fs → distinct fs ≡ true → all_datagrams ws ≡ true → Meant fs ws
 meant fs ws a d w = record { sound = all_sound fs a; apart = apart fs d; waits = whole_all ws w }
 
 -- finding a filter by its key
@@ -118,7 +118,7 @@ record Serves (fs : List Filter) (q : List ℕ) (x : Ask) (o : Outcome) : Type 0
 refusing : (fs : List Filter) (q : List ℕ) (x : Ask) (n : ℕ) → n < 4095 → Serves fs q x (answered q (negsuc n) fs)
 refusing fs q x n h = record { messages = answer q (negsuc n) ∷ []; effect = refused (refuses q n h); cut = cut_answer q (negsuc n) }
 
-module _ (fs : List Filter) (q : List ℕ) (a : All Stands fs) where
+module _ (fs : List Filter) (q : List ℕ) (a : AllByRecursion Stands fs) where
   serves_attach : (k : Key) (p : Program) → Writes (attach k p) q → Serves fs q (attach k p) (served fs q (attach k p))
   serves_attach k p w = by (taken g fs) refl (nat_le 32 (length fs)) refl
     where
@@ -200,7 +200,7 @@ ok_not_err p = let z : ◌≡◌ {A = ℕ} 0 1 = cc in absurd (omega arith)
 err_not_ok : {X : Type 0} {e : ℤ} {u : Unit {0}} → ◌≡◌ {A = Answer} (Err e) (Ok u) → X
 err_not_ok p = let z : ◌≡◌ {A = ℕ} 0 1 = cc in absurd (omega arith)
 
-module _ (s t : State) (a : All Stands s.filters) where
+module _ (s t : State) (a : AllByRecursion Stands s.filters) where
   open_rule : (r : Answer) → Calls s (opened r) t → Rule s.filters s.waiting (opened r) t.filters t.waiting
   open_rule (Ok u) c = (ap (λ (x : State). x.filters) c.1, ap (λ (x : State). x.waiting) c.1)
   open_rule (Err e) c = err_not_ok c.0
@@ -257,7 +257,7 @@ receive_rule s t n (datagram d) c =
 receive_rule s t n (failed e) c =
     (ap (λ (y : State). y.filters) c.1, subst (λ (x : List (List ℕ)). Within x s.waiting) (sym (ap (λ (y : State). y.waiting) c.1)) (within_rest n s.waiting))
 
-pub rules : (s t : State) (e : Event) → All Stands s.filters → Calls s e t → Rule s.filters s.waiting e t.filters t.waiting
+pub rules : (s t : State) (e : Event) → AllByRecursion Stands s.filters → Calls s e t → Rule s.filters s.waiting e t.filters t.waiting
 rules s t (opened r) a c = open_rule s t a r c
 rules s t (sent q r) a c = send_rule s t a q r c
 rules s t (received n g) a c = receive_rule s t n g c

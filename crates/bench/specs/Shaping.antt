@@ -3,7 +3,7 @@ use Rattle.std.specs.Prelude.{◌≡◌, ℕ, ◌+◌, ◌/◌, ◌^◌, ◌<◌
 use Rattle.std.proofs.Common.{ap, ◌∙◌, append_assoc, to_z, of_z, arith}
 use Rattle.std.specs.Int.{w32}
 use Rattle.std.proofs.Math.Facts.{Fits-of_z}
-use Rattle.std.specs.List.{AllByRecursion as All}
+use Rattle.std.specs.List.{AllByRecursion}
 use Rattle.std.proofs.lemmas.Nat.{div-mul-add}
 use Rattle.std.proofs.lemmas.Slice.Eq.{bytes_eq-Decides}
 use Rattle.std.proofs.lemmas.List.{length-append, length-replicate}
@@ -134,7 +134,7 @@ sound f s =
       name = a_name f.kind f.name t.name t.may;
     }
 
-pub all_sound : (fs : List Filter) → All Stands fs → All Sound fs
+pub all_sound : (fs : List Filter) → AllByRecursion Stands fs → AllByRecursion Sound fs
 all_sound [] s = tt
 all_sound (f ∷ fs) s = (sound f s.0, all_sound fs s.1)
 
@@ -210,6 +210,6 @@ lists f s =
       options = optioned f f.name refl t.name;
     }
 
-pub listed : (fs : List Filter) → All Stands fs → Listed fs (map (told 2) fs ++ (done ∷ []))
+pub listed : (fs : List Filter) → AllByRecursion Stands fs → Listed fs (map (told 2) fs ++ (done ∷ []))
 listed [] s = last ends
 listed (f ∷ fs) s = next (lists f s.0) (listed fs s.1)

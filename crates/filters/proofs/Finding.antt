@@ -1,6 +1,6 @@
 -- The filters of a store, by their places. Assumes nothing.
 use Rattle.std.proofs.Common.{◌≡◌, ℕ, ◌+◌, ◌<◌, ◌≤◌, true, false, ltb, List, [], ◌∷◌, map, length, get_or, take, drop, sym, ap, ◌∙◌, arith}
-use Rattle.std.specs.List.{AllByRecursion as All}
+use Rattle.std.specs.List.{AllByRecursion}
 use Rattle.std.specs.Str.{bytes_eq}
 use Rattle.requests.specs.Asks.{Key}
 use Rattle.hosts.specs.Meaning.{Filter, bpf}
@@ -54,11 +54,11 @@ module _ (t : Filters) (k : Key) (i : ℕ) (e : i ≡ before k (held t)) where
       ∙ ap (λ (f : Filter). bytes_eq f.kind bpf) (held_there t i r nothing h)
 
 -- every filter of a store can stand there
-rows_stand : (rs : List Row) → All Stands (map meaning rs)
+rows_stand : (rs : List Row) → AllByRecursion Stands (map meaning rs)
 rows_stand [] = tt
 rows_stand (r ∷ rs) = ((r.ok, r.bounds), rows_stand rs)
 
-pub held_stand : (t : Filters) → All Stands (held t)
+pub held_stand : (t : Filters) → AllByRecursion Stands (held t)
 held_stand t = rows_stand (take t.len t.rows)
 
 pub held_short : (t : Filters) → length (held t) ≤ 32

@@ -1,6 +1,6 @@
 -- The meaning of a host: the filters that stand, and the datagrams that wait.
 use Rattle.std.specs.Prelude.{◌≡◌, ℕ, ◌≤◌, ◌⊎◌, List, [], ◌∷◌, map, length, Some, None, Option, ◌≢◌}
-use Rattle.std.specs.List.{AllByRecursion as All}
+use Rattle.std.specs.List.{AllByRecursion}
 use Rattle.records.specs.Layouts.{Message, Messages}
 use Rattle.requests.specs.Asks.{Key}
 
@@ -13,7 +13,7 @@ abbrev pub bpf : List ℕ
 bpf = 98 ∷ 112 ∷ 102 ∷ []
 
 abbrev pub ZeroFree : List ℕ → Type 0
-ZeroFree = All (λ x. x ≢ 0)
+ZeroFree = AllByRecursion (λ x. x ≢ 0)
 
 -- only a bpf filter has a name
 abbrev pub Named : List ℕ → Option (List ℕ) → Type 0
@@ -47,6 +47,6 @@ pub record Datagram (d : List ℕ) : Type 0 where
 
 -- what a host's filters and waiting datagrams always are
 pub record Meant (fs : List Filter) (ws : List (List ℕ)) : Type 0 where
-  pub sound : All Sound fs
+  pub sound : AllByRecursion Sound fs
   pub apart : Apart (keys fs)
-  pub waits : All Datagram ws
+  pub waits : AllByRecursion Datagram ws

@@ -2,7 +2,7 @@
 use Rattle.std.specs.Prelude.{◌≡◌, ℕ, ◌/◌, ◌<◌, ◌≤◌, true, false, List, [], ◌∷◌, map, length, drop, ℤ, pos, negsuc, Some, None, filter, ◌≢◌, nat_eq}
 use Rattle.std.proofs.Common.{to_z}
 use Rattle.std.specs.Int.{w32}
-use Rattle.std.specs.List.{AllByRecursion as All}
+use Rattle.std.specs.List.{AllByRecursion}
 use Rattle.records.specs.Words.{le4}
 use Rattle.records.specs.Fields.{tcmsg_of}
 use Rattle.records.specs.Layouts.{Attribute, Row, Message}
@@ -43,7 +43,7 @@ pub record Refuses (m : Message) : Type 0 where
   pub status : status_in m.payload ≡ negsuc below
   pub row : List Attribute
   pub stands : Row (drop 20 m.payload) row
-  pub texts : All Text (payloads 1 row)
+  pub texts : AllByRecursion Text (payloads 1 row)
 
 -- a filter message (RTM_NEWTFILTER, 44) with this key; the priority is the upper half of info
 pub record NamesKey (k : Key) (m : Message) : Type 0 where

@@ -1,6 +1,6 @@
 -- Pieces cut from bytes: more of them, a longer last one, the first taken off. Assumes nothing.
 use Rattle.std.proofs.Common.{◌≡◌, ℕ, zero, suc, ◌+◌, ◌-◌, ◌*◌, ◌<◌, ◌≤◌, leb, List, [], ◌∷◌, ◌++◌, length, get_or, take, drop, refl, ap, arith, take-add}
-use Rattle.std.specs.List.{AllByRecursion as All}
+use Rattle.std.specs.List.{AllByRecursion}
 use Rattle.std.proofs.lemmas.List.{take_at, take-append-drop, take-take, drop-take, take-append-le, drop-append-le, length-drop, length-append, length-take-le, get_or-take, append_assoc}
 use Rattle.std.proofs.ByRecursion.{All-get_or, All-from_get_or}
 use Rattle.std.proofs.lemmas.Bool.{le-leb, lt-leb, cond-true, cond-false}
@@ -69,23 +69,23 @@ total_more [] ms = omega arith
 total_more (n ∷ ns) ms = let i = total_more ns ms in omega arith
 
 -- each at least 16: the sum is at least as many times 16
-pub least_total : (ns : List ℕ) → All Sized ns → 16 * length ns ≤ total ns
+pub least_total : (ns : List ℕ) → AllByRecursion Sized ns → 16 * length ns ≤ total ns
 least_total [] a = omega arith
 least_total (n ∷ ns) a = let i = least_total ns a.1 in let f = a.0.0 in omega arith
 
 -- the pieces are as long as their lengths say
-pub sized_cut : (ns b : List ℕ) → total ns ≤ length b → All Sized ns → All (λ d. Sized (length d)) (cut ns b)
+pub sized_cut : (ns b : List ℕ) → total ns ≤ length b → AllByRecursion Sized ns → AllByRecursion (λ d. Sized (length d)) (cut ns b)
 sized_cut [] b h a = tt
 sized_cut (n ∷ ns) b h a =
     let l = length-take-le n b (omega arith) in
     ((omega arith, omega arith), sized_cut ns (drop n b) (simp length-drop (omega arith)) a.1)
 
-pub all_held : (lens : List ℕ) (c : ℕ) → c ≤ length lens → ((k : ℕ) → k < c → Sized (get_or lens k 0)) → All Sized (take c lens)
+pub all_held : (lens : List ℕ) (c : ℕ) → c ≤ length lens → ((k : ℕ) → k < c → Sized (get_or lens k 0)) → AllByRecursion Sized (take c lens)
 all_held lens c l h =
     let e = length-take-le c lens l in
     All-from_get_or Sized (take c lens) 0 (λ k q. let p : k < c = omega arith in rw (get_or-take c lens k 0 p) (h k p))
 
-pub each_held : (lens : List ℕ) (c : ℕ) → c ≤ length lens → All Sized (take c lens) → (k : ℕ) → k < c → Sized (get_or lens k 0)
+pub each_held : (lens : List ℕ) (c : ℕ) → c ≤ length lens → AllByRecursion Sized (take c lens) → (k : ℕ) → k < c → Sized (get_or lens k 0)
 each_held lens c l a k q =
     let e = length-take-le c lens l in
     let z : k < length (take c lens) = omega arith in

@@ -1,6 +1,6 @@
 -- The calls of a queue over its bytes b, its lengths lens, their count c and their sum u. Assumes nothing.
 use Rattle.std.proofs.Common.{◌≡◌, ℕ, zero, suc, ◌+◌, ◌-◌, ◌*◌, ◌<◌, ◌≤◌, true, false, ◌&&◌, ltb, leb, List, [], ◌∷◌, ◌++◌, length, get_or, take, drop, set, Some, None, sym, refl, ap, ◌∙◌, arith}
-use Rattle.std.specs.List.{AllByRecursion as All}
+use Rattle.std.specs.List.{AllByRecursion}
 use Rattle.std.proofs.lemmas.List.{take_at, take_more, take-append-le, length-drop, length-take, length-append, length-set, length-take-le, take_more_set, append_assoc}
 use Rattle.std.proofs.ByRecursion.{All-append, All-push}
 use Rattle.std.proofs.lemmas.Bool.{lt-ltb, le-leb, lt-leb, leb-true, leb-false, cond-true, cond-false, and_parts}
@@ -19,16 +19,16 @@ pub record Sums (lens : List ℕ) (c u : ℕ) : Type 0 where
 pub sums : (q : Queue) → Sums q.lens q.count q.used
 sums q = record { slots = omega arith; few = q.few.0; sum = q.sum; each = q.each }
 
-sums_from : (ls ns : List ℕ) (c u : ℕ) → c ≤ length ls → take c ls ≡ ns → All Sized ns → u ≡ total ns → Sums ls c u
+sums_from : (ls ns : List ℕ) (c u : ℕ) → c ≤ length ls → take c ls ≡ ns → AllByRecursion Sized ns → u ≡ total ns → Sums ls c u
 sums_from ls ns c u l e a s =
-    let t : All Sized (take c ls) = rw e a in
+    let t : AllByRecursion Sized (take c ls) = rw e a in
     let f = least_total (take c ls) t in
     let z = length-take-le c ls l in
     let v = ap total e in
     record { slots = l; few = omega arith; sum = omega arith; each = each_held ls c l t }
 
 module _ (lens : List ℕ) (c u : ℕ) (s : Sums lens c u) where
-  all : All Sized (take c lens)
+  all : AllByRecursion Sized (take c lens)
   all = all_held lens c s.slots s.each
 
   module _ (d : List ℕ) (l : c < length lens) where
@@ -144,7 +144,7 @@ module _ (lens : List ℕ) (c u : ℕ) (s : Sums lens c u) where
     pop_sums ls q =
         let z = s.slots in
         let e = first_sum in
-        let a : All Sized (n ∷ take (c - 1) (drop 1 lens)) = rw first at all in
+        let a : AllByRecursion Sized (n ∷ take (c - 1) (drop 1 lens)) = rw first at all in
         sums_from ls (take (c - 1) (drop 1 lens)) (c - 1) (u - n) (rw q (simp (length-append, length-drop, length-take) (omega arith))) (turned ls q) a.1 (omega arith)
 
     module _ (b : List ℕ) (h : u ≤ length b) where
@@ -245,5 +245,5 @@ apart lens (suc c) u s b h m t =
     sym (new_last lens (suc c) u s (omega arith) b h m (leb-false _ _ (sym e)))
 
 -- every datagram that waits has a length that a datagram may have
-pub waiting_sized : (q : Queue) → All (λ d. Sized (length d)) (waiting q)
+pub waiting_sized : (q : Queue) → AllByRecursion (λ d. Sized (length d)) (waiting q)
 waiting_sized q = let s = q.sum in sized_cut (take q.count q.lens) q.bytes (omega arith) (all_held q.lens q.count (omega arith) q.each)
