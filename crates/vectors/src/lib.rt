@@ -1,7 +1,8 @@
 // Requests against what the Rust module sends: every expected text of `sends` was printed by aya 0.16.0's own code over a scripted
 // socket, and none by this repository. And the edges of a row of attributes.
-
 #![tactic(auto)]
+
+ghost use Rattle.std.specs.Prelude.{IfOk, IsTrue};
 
 #[cfg(test)]
 mod tests {
@@ -12,8 +13,34 @@ mod tests {
     use requests::mode::XdpMode;
     use requests::request::{Key, Program, Request};
     use std::alloc::{AllocError, Global};
-    use std::process::Abort;
+    use std::fmt::Debug;
     use std::test::Fail;
+
+    // What a test says of two values that had to be the same.
+    #[derive(Debug, Drop)]
+    struct Differ<T> {
+        found: T,
+        expected: T,
+    }
+
+    // Fails a test whose fact does not hold.
+    fn check(holds: bool) -> Result<(), Fail>
+        ensures { IfOk result (λ _. IsTrue holds) }
+    {
+        if holds {
+            Ok(())
+        } else {
+            Err("it does not hold")?
+        }
+    }
+
+    // Fails a test whose two values are not the same, and says both.
+    fn check_eq<T: PartialEq + Debug + Drop>(found: T, expected: T) -> Result<(), Fail> {
+        if found == expected {
+            return Ok(());
+        }
+        Err(Differ { found, expected })?
+    }
 
     // One hexadecimal digit.
     fn digit(n: u8) -> char {
@@ -74,48 +101,38 @@ mod tests {
     }
 
     // Writes a request, and compares it with what the Rust sends; then reads it back, and writes it again.
-    fn sends(
-        rt: &impl Abort,
-        heap: Global,
-        request: Request<'_>,
-        expected: &str,
-    ) -> Result<(), Fail> {
+    fn sends(heap: Global, request: Request<'_>, expected: &str) -> Result<(), Fail> {
         let mut out = [0xa5u8; 512];
         let n = request.write(&mut out)?;
-        assert!(rt; n <= 500);
-        assert_eq!(rt; hex(heap, &out[0..n])?.as_str(), expected);
-        assert_eq!(rt; out[n], 0xa5);
+        check(n <= 500)?;
+        check_eq(hex(heap, &out[0..n])?.as_str(), expected)?;
+        check_eq(out[n], 0xa5)?;
         let back = Request::read(&out[0..n]).ok_or("no request")?;
         let mut again = [0u8; 512];
         let m = back.write(&mut again)?;
-        assert!(rt; m <= 512);
-        assert_eq!(rt; hex(heap, &again[0..m])?.as_str(), expected);
-        Ok(())
+        check(m <= 512)?;
+        check_eq(hex(heap, &again[0..m])?.as_str(), expected)
     }
 
     #[test]
     fn attach_1(rt: HostRuntime) -> Result<(), Fail> {
         let heap = rt.alloc();
         sends(
-            &rt,
             heap,
             attach(b"order", None),
             "4c0000002c000d060100000000000000000000000200000000000000f2ffffff0003000008000100627066002000028008000600070000000a0007006f726465720000000800080001000000",
         )?;
         sends(
-            &rt,
             heap,
             attach(b"order", Some(TcHandle::of_bits(0x00010001))),
             "540000002c000d060100000000000000000000000200000000000000f2ffffff00030000080001006270660028000280080003000100010008000600070000000a0007006f726465720000000800080001000000",
         )?;
         sends(
-            &rt,
             heap,
             attach(b"", None),
             "480000002c000d060100000000000000000000000200000000000000f2ffffff0003000008000100627066001c000280080006000700000005000700000000000800080001000000",
         )?;
         sends(
-            &rt,
             heap,
             attach(b"xxx", None),
             "480000002c000d060100000000000000000000000200000000000000f2ffffff0003000008000100627066001c000280080006000700000008000700787878000800080001000000",
@@ -127,13 +144,11 @@ mod tests {
     fn attach_2(rt: HostRuntime) -> Result<(), Fail> {
         let heap = rt.alloc();
         sends(
-            &rt,
             heap,
             attach(b"xxxx", None),
             "4c0000002c000d060100000000000000000000000200000000000000f2ffffff0003000008000100627066002000028008000600070000000900070078787878000000000800080001000000",
         )?;
         sends(
-            &rt,
             heap,
             Request::Attach(
                 Key {
@@ -157,7 +172,6 @@ mod tests {
     fn long_name(rt: HostRuntime) -> Result<(), Fail> {
         let heap = rt.alloc();
         sends(
-            &rt,
             heap,
             attach(&[110; 256], Some(TcHandle::of_bits(0x00010001))),
             "500100002c000d060100000000000000000000000200000000000000f2ffffff0003000008000100627066002401028008000300010001000800060007000000050107006e6e6e6e6e6e6e6e6e6e6e6e6e6e6e6e6e6e6e6e6e6e6e6e6e6e6e6e6e6e6e6e6e6e6e6e6e6e6e6e6e6e6e6e6e6e6e6e6e6e6e6e6e6e6e6e6e6e6e6e6e6e6e6e6e6e6e6e6e6e6e6e6e6e6e6e6e6e6e6e6e6e6e6e6e6e6e6e6e6e6e6e6e6e6e6e6e6e6e6e6e6e6e6e6e6e6e6e6e6e6e6e6e6e6e6e6e6e6e6e6e6e6e6e6e6e6e6e6e6e6e6e6e6e6e6e6e6e6e6e6e6e6e6e6e6e6e6e6e6e6e6e6e6e6e6e6e6e6e6e6e6e6e6e6e6e6e6e6e6e6e6e6e6e6e6e6e6e6e6e6e6e6e6e6e6e6e6e6e6e6e6e6e6e6e6e6e6e6e6e6e6e6e6e6e6e6e6e6e6e6e6e6e6e6e6e6e6e6e6e6e6e6e6e6e6e6e6e6e6e6e6e6e6e6e6e6e6e6e6e6e6e6e6e6e6e6e6e6e6e6e6e6e6e6e6e000000000800080001000000",
@@ -169,7 +183,6 @@ mod tests {
     fn replace_remove_list_1(rt: HostRuntime) -> Result<(), Fail> {
         let heap = rt.alloc();
         sends(
-            &rt,
             heap,
             Request::Replace(
                 Key {
@@ -187,7 +200,6 @@ mod tests {
             "4c0000002c000d000100000000000000000000000200000001000000f2ffffff000300c008000100627066002000028008000600070000000a0007006f726465720000000800080001000000",
         )?;
         sends(
-            &rt,
             heap,
             Request::Replace(
                 Key {
@@ -205,7 +217,6 @@ mod tests {
             "540000002c000d000100000000000000000000000200000009000000f2ffffff00030300080001006270660028000280080003000000000008000600070000000a0007006f726465720000000800080001000000",
         )?;
         sends(
-            &rt,
             heap,
             Request::Remove(Key {
                 interface: 2,
@@ -216,7 +227,6 @@ mod tests {
             "240000002d0005000100000000000000000000000200000001000000f2ffffff000300c0",
         )?;
         sends(
-            &rt,
             heap,
             Request::Remove(Key {
                 interface: 2,
@@ -233,13 +243,11 @@ mod tests {
     fn replace_remove_list_2(rt: HostRuntime) -> Result<(), Fail> {
         let heap = rt.alloc();
         sends(
-            &rt,
             heap,
             list(2, TcHandle::of_bits(0xfffffff2)),
             "240000002e0001030100000000000000000000000200000000000000f2ffffff00000000",
         )?;
         sends(
-            &rt,
             heap,
             add_clsact(2),
             "3000000024000506010000000000000000000000020000000000fffff1ffffff000000000b000100636c736163740000",
@@ -251,25 +259,21 @@ mod tests {
     fn xdp_1(rt: HostRuntime) -> Result<(), Fail> {
         let heap = rt.alloc();
         sends(
-            &rt,
             heap,
             set_xdp(2, Some(7), None, XdpMode::Default),
             "340000001300050001000000000000000000000002000000000000000000000014002b8008000100070000000800030001000000",
         )?;
         sends(
-            &rt,
             heap,
             set_xdp(2, Some(7), Some(9), XdpMode::Default),
             "3c000000130005000100000000000000000000000200000000000000000000001c002b80080001000700000008000300100000000800080009000000",
         )?;
         sends(
-            &rt,
             heap,
             set_xdp(2, None, Some(7), XdpMode::Default),
             "3c000000130005000100000000000000000000000200000000000000000000001c002b8008000100ffffffff08000300100000000800080007000000",
         )?;
         sends(
-            &rt,
             heap,
             set_xdp(2, Some(7), None, XdpMode::Skb),
             "340000001300050001000000000000000000000002000000000000000000000014002b8008000100070000000800030003000000",
@@ -281,25 +285,21 @@ mod tests {
     fn xdp_2(rt: HostRuntime) -> Result<(), Fail> {
         let heap = rt.alloc();
         sends(
-            &rt,
             heap,
             set_xdp(2, Some(7), Some(9), XdpMode::Skb),
             "3c000000130005000100000000000000000000000200000000000000000000001c002b80080001000700000008000300120000000800080009000000",
         )?;
         sends(
-            &rt,
             heap,
             set_xdp(2, Some(7), None, XdpMode::Driver),
             "340000001300050001000000000000000000000002000000000000000000000014002b8008000100070000000800030005000000",
         )?;
         sends(
-            &rt,
             heap,
             set_xdp(2, None, Some(7), XdpMode::Driver),
             "3c000000130005000100000000000000000000000200000000000000000000001c002b8008000100ffffffff08000300140000000800080007000000",
         )?;
         sends(
-            &rt,
             heap,
             set_xdp(2, Some(7), None, XdpMode::Hardware),
             "340000001300050001000000000000000000000002000000000000000000000014002b8008000100070000000800030009000000",
@@ -311,13 +311,11 @@ mod tests {
     fn xdp_3(rt: HostRuntime) -> Result<(), Fail> {
         let heap = rt.alloc();
         sends(
-            &rt,
             heap,
             set_xdp(2, Some(7), Some(9), XdpMode::Hardware),
             "3c000000130005000100000000000000000000000200000000000000000000001c002b80080001000700000008000300180000000800080009000000",
         )?;
         sends(
-            &rt,
             heap,
             set_xdp(2, None, None, XdpMode::Default),
             "340000001300050001000000000000000000000002000000000000000000000014002b8008000100ffffffff0800030001000000",
@@ -333,15 +331,16 @@ mod tests {
     };
 
     // Refused, in the order of the checks, and the buffer is left as it was.
-    fn refuses(rt: &impl Abort, request: Request<'_>, out: &mut [u8], fault: ArgumentFault) {
-        assert_eq!(rt; request.write(out), Err(fault));
+    fn refuses(request: Request<'_>, out: &mut [u8], fault: ArgumentFault) -> Result<(), Fail> {
+        check_eq(request.write(out), Err(fault))?;
         for b in out.iter() {
-            assert_eq!(rt; *b, 0xa5);
+            check_eq(*b, 0xa5)?;
         }
+        Ok(())
     }
 
     #[test]
-    fn refused(rt: HostRuntime) {
+    fn refused() -> Result<(), Fail> {
         let mut out = [0xa5u8; 75];
         let order = Program {
             descriptor: 7,
@@ -365,34 +364,30 @@ mod tests {
             ..order
         };
         refuses(
-            &rt,
             Request::Attach(far, high),
             &mut out,
             ArgumentFault::Interface(0),
-        );
+        )?;
         refuses(
-            &rt,
             Request::Attach(KEY, high),
             &mut out,
             ArgumentFault::Descriptor(0x8000_0000),
-        );
+        )?;
         refuses(
-            &rt,
             Request::Attach(KEY, zero),
             &mut out,
             ArgumentFault::ZeroInName,
-        );
+        )?;
         refuses(
-            &rt,
             Request::Attach(KEY, long),
             &mut out,
             ArgumentFault::LongName(257),
-        );
+        )?;
         let short = ArgumentFault::ShortBuffer {
             size: 75,
             expected: 76,
         };
-        refuses(&rt, Request::Attach(KEY, order), &mut out, short);
+        refuses(Request::Attach(KEY, order), &mut out, short)
     }
 
     // The first attribute of a row, by its payload.
@@ -403,44 +398,44 @@ mod tests {
         }
     }
 
-    fn reads(rt: &impl Abort, row: &[u8], payload: &[u8]) {
+    fn reads(row: &[u8], payload: &[u8]) -> Result<(), Fail> {
         match first(row) {
-            Some(Ok(data)) => assert_eq!(rt; data, payload),
-            _ => panic!(rt; "no attribute is read"),
+            Some(Ok(data)) => check_eq(data, payload),
+            _ => check(false),
         }
     }
 
-    fn faults(rt: &impl Abort, row: &[u8], expected: AttributeFault, number: u8) {
+    fn faults(row: &[u8], expected: AttributeFault, number: u8) -> Result<(), Fail> {
         match first(row) {
             Some(Err(fault)) => {
-                assert_eq!(rt; fault, expected);
-                assert_eq!(rt; fault.number(), number);
+                check_eq(fault, expected)?;
+                check_eq(fault.number(), number)
             }
-            _ => panic!(rt; "no fault is found"),
+            _ => check(false),
         }
     }
 
     // One payload byte takes a row of 8 bytes, with its padding; a row of 5 has none, and is refused.
     #[test]
-    fn row_edges(rt: HostRuntime) {
-        reads(&rt, &[5, 0, 7, 0, 0x61, 0, 0, 0], b"a");
+    fn row_edges() -> Result<(), Fail> {
+        reads(&[5, 0, 7, 0, 0x61, 0, 0, 0], b"a")?;
         let past = AttributeFault::Past {
             size: 1,
             expected: 4,
         };
-        faults(&rt, &[5, 0, 7, 0, 0x61], past, 21);
-        faults(&rt, &[3, 0, 7, 0], AttributeFault::Length(3), 20);
+        faults(&[5, 0, 7, 0, 0x61], past, 21)?;
+        faults(&[3, 0, 7, 0], AttributeFault::Length(3), 20)?;
         let cut = AttributeFault::Cut {
             size: 3,
             expected: 4,
         };
-        faults(&rt, &[4, 0, 7], cut, 19);
-        assert!(rt; first(&[]).is_none());
+        faults(&[4, 0, 7], cut, 19)?;
+        check(first(&[]).is_none())
     }
 
     // The sizes: with and without a class, and the longest name.
     #[test]
-    fn sizes(rt: HostRuntime) {
+    fn sizes() -> Result<(), Fail> {
         let order = Program {
             descriptor: 7,
             name: b"order",
@@ -454,15 +449,15 @@ mod tests {
             name: &[110; 256],
             ..class
         };
-        assert_eq!(rt; Request::Attach(KEY, order).size(), Ok(76));
-        assert_eq!(rt; Request::Attach(KEY, class).size(), Ok(84));
-        assert_eq!(rt; Request::Attach(KEY, longest).size(), Ok(336));
-        assert_eq!(rt; Request::Remove(KEY).size(), Ok(36));
+        check_eq(Request::Attach(KEY, order).size(), Ok(76))?;
+        check_eq(Request::Attach(KEY, class).size(), Ok(84))?;
+        check_eq(Request::Attach(KEY, longest).size(), Ok(336))?;
+        check_eq(Request::Remove(KEY).size(), Ok(36))
     }
 
     // Bytes that are no request: one flag, one byte more, a length that is off, padding that is not zero.
     #[test]
-    fn no_request(rt: HostRuntime) -> Result<(), Fail> {
+    fn no_request() -> Result<(), Fail> {
         let mut out = [0u8; 76];
         let order = Program {
             descriptor: 7,
@@ -470,13 +465,12 @@ mod tests {
             class: None,
         };
         Request::Attach(KEY, order).write(&mut out)?;
-        assert!(rt; Request::read(&out).is_some());
-        assert!(rt; Request::read(&out[0..75]).is_none());
+        check(Request::read(&out).is_some())?;
+        check(Request::read(&out[0..75]).is_none())?;
         out[67] = 1;
-        assert!(rt; Request::read(&out).is_none());
+        check(Request::read(&out).is_none())?;
         out[67] = 0;
         out[7] = 4;
-        assert!(rt; Request::read(&out).is_none());
-        Ok(())
+        check(Request::read(&out).is_none())
     }
 }
