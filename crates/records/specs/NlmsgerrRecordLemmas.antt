@@ -1,3 +1,4 @@
+-- A list of at least 4 bytes, its first four written out. Assumes nothing.
 use Rattle.std.specs.Prelude.{◌≡◌, ℕ, ◌≤◌, List, [], ◌∷◌, length, drop, slice_index, refl}
 use Rattle.std.proofs.Common.{arith}
 
