@@ -2,9 +2,10 @@
 use Rattle.std.proofs.Common.{◌≡◌, ℕ, Bool, true, false, cond, List, [], ◌∷◌, ◌++◌, ℤ, pos, Some, None, Ok, Err, Result, sym, refl, ap, ◌∙◌, arith}
 use Rattle.requests.specs.Asks.{Key}
 use Rattle.hosts.specs.Events.{Answer}
-use Rattle.hosts.specs.Meaning.{Filter, bpf}
+use Rattle.hosts.specs.Meaning.{Filter}
 use Rattle.filters.specs.Fitting.{is_filter}
 use Rattle.filters.specs.Keys.{admitted, added}
+use Rattle.filters.specs.declared.refusal.Refusal.{Refusal}
 use Rattle.bench.specs.Serving.{Outcome, echoed, granted, named, attaching}
 use Rattle.bench.specs.Calls.{State, state, fits, Replied}
 use Rattle.bench.proofs.Giving.{made}
@@ -50,16 +51,16 @@ module _ (o p : Outcome) (s t : State) (same : o.reply ≡ p.reply) where
 
 -- what an attach that is admitted comes to
 module _ (k g : Key) (name q : List ℕ) (fs : List Filter) (f : Filter) (e : g ≡ granted k fs)
-    (m : Some f ≡ cond (is_filter g bpf (Some name)) (Some (named g name)) None) (a : Ok tt ≡ admitted g fs) where
+    (m : Some f ≡ cond (is_filter (named g name)) (Some (named g name)) None) (a : Ok tt ≡ admitted g fs) where
   is : f ≡ named g name
-  is = (made (is_filter g bpf (Some name)) (named g name) f m).1
+  is = (made (is_filter (named g name)) (named g name) f m).1
 
   pub comes_to : attaching (admitted (granted k fs) fs) (named (granted k fs) name) q fs ≡ echoed 0x060D f q (fs ++ (f ∷ []))
   comes_to =
-      ap (λ (x : Key). attaching (admitted x fs) (named x name) q fs) (sym e) ∙ ap (λ (x : Result (Unit {0}) ℤ). attaching x (named g name) q fs) (sym a)
+      ap (λ (x : Key). attaching (admitted x fs) (named x name) q fs) (sym e) ∙ ap (λ (x : Result (Unit {0}) Refusal). attaching x (named g name) q fs) (sym a)
       ∙ ap (λ (x : Filter). echoed 0x060D x q (fs ++ (x ∷ []))) (sym is)
 
-  pub adds : (gs hs : List Filter) (r : Result (Unit {0}) ℤ) → gs ≡ fs → r ≡ admitted f.key gs → hs ≡ added r f gs → hs ≡ fs ++ (f ∷ [])
+  pub adds : (gs hs : List Filter) (r : Result (Unit {0}) Refusal) → gs ≡ fs → r ≡ admitted f.key gs → hs ≡ added r f gs → hs ≡ fs ++ (f ∷ [])
   adds gs hs r w b c =
       let ok : r ≡ Ok tt = b ∙ ap (λ (x : List Filter). admitted f.key x) w ∙ ap (λ (x : Filter). admitted x.key fs) is ∙ sym a in
-      c ∙ ap (λ (x : Result (Unit {0}) ℤ). added x f gs) ok ∙ ap (λ (x : List Filter). x ++ (f ∷ [])) w
+      c ∙ ap (λ (x : Result (Unit {0}) Refusal). added x f gs) ok ∙ ap (λ (x : List Filter). x ++ (f ∷ [])) w

@@ -1,11 +1,12 @@
 -- A receive hands out the first datagram. Assumes nothing.
-use Rattle.std.proofs.Common.{◌≡◌, ℕ, ◌≤◌, Bool, true, false, cond, leb, List, [], ◌∷◌, ◌++◌, length, take, drop, pos, Some, None, Option, sym, refl, ap, ◌∙◌, arith}
+use Rattle.std.proofs.Common.{◌≡◌, ℕ, ◌≤◌, Bool, true, false, cond, leb, List, [], ◌∷◌, ◌++◌, length, take, drop, ℤ, pos, Some, None, Option, Result, sym, refl, ap, ◌∙◌, arith}
+use Rattle.std.specs.Option.{ok_or}
 use Rattle.std.proofs.lemmas.Bool.{le-leb, leb-true}
 use Rattle.std.proofs.lemmas.List.{take_at, length-append}
 use Rattle.queue.specs.Cuts.{fitting, behind, fronted}
-use Rattle.hosts.specs.Events.{datagram, failed}
+use Rattle.hosts.specs.Events.{datagram, failed, gotten, laid, Sized}
 use Rattle.hosts.specs.Meaning.{Filter}
-use Rattle.hosts.proofs.Keyed.{and_left, and_right}
+use Rattle.keyed.proofs.Keyed.{and_left, and_right}
 use Rattle.bench.specs.Wholeness.{some, is_datagram, all_datagrams}
 use Rattle.reader.specs.Datagrams.{messages}
 use Rattle.bench.specs.Calls.{state, came, rest}
@@ -58,6 +59,23 @@ module _ (b : List ℕ) (h : 4096 ≤ length b) where
       let is : None ≡ Some (length d) = a ∙ ap (λ (x : Bool). cond {A = Option ℕ} x (Some (length d)) None) fits in
       let z : ◌≡◌ {A = ℕ} 0 1 = cc in
       absurd (omega arith)
+
+-- the datagram or nothing, as a receive answers it
+module _ (b : List ℕ) (h : 4096 ≤ length b) where
+  pub record Answered (ws ws' : List (List ℕ)) (fs : List Filter) (r : Result ℕ ℤ) (out : List ℕ) : Type 0 where
+    pub gives : gotten r out ≡ came (length b) ws
+    pub leaves : state fs ws' ≡ state fs (rest (length b) ws)
+    pub lays : out ≡ laid b (gotten r out)
+    pub inside : Sized r out
+
+  pub answered : (ws ws' : List (List ℕ)) (fs : List Filter) (o : Option ℕ) (out : List ℕ) → all_datagrams ws ≡ true → o ≡ fitting (length b) ws → ws' ≡ behind (length b) ws →
+      out ≡ fronted ws b → Answered ws ws' fs (ok_or o (pos 11)) out
+  answered ws ws' fs None out w a l o =
+      let e = empty b h ws ws' fs out w a l o in
+      record { gives = e.gives; leaves = e.leaves; lays = e.lays; inside = tt }
+  answered ws ws' fs (Some n) out w a l o =
+      let e = handed b h ws ws' fs n out w a l o in
+      record { gives = e.gives; leaves = e.leaves; lays = e.lays; inside = e.inside }
 
 pub whole_behind : (n : ℕ) (ws : List (List ℕ)) → all_datagrams ws ≡ true → all_datagrams (behind n ws) ≡ true
 whole_behind n [] w = refl

@@ -1,14 +1,15 @@
 -- The bytes that are written are those of the replies, and they have room. Assumes nothing.
-use Rattle.std.proofs.Common.{◌≡◌, ℕ, ◌+◌, ◌-◌, ◌≤◌, Bool, true, cond, leb, List, [], ◌∷◌, ◌++◌, length, take, drop, replicate, ℤ, None, Ok, Err, Option, Result, sym, ap, ◌∙◌, arith}
+use Rattle.std.proofs.Common.{◌≡◌, ℕ, ◌+◌, ◌≤◌, Bool, true, cond, leb, List, [], ◌∷◌, ◌++◌, length, take, drop, replicate, ℤ, None, Ok, Option, Result, sym, ap, ◌∙◌, arith}
 use Rattle.std.proofs.lemmas.List.{take_at}
 use Rattle.std.proofs.lemmas.Bool.Decides.{nat_tests}
 use Rattle.records.specs.Fields.{nlmsghdr_of, nlmsghdr_bytes, nlmsgerr_bytes}
 use Rattle.records.specs.declared.nlmsghdr.Nlmsghdr.{Nlmsghdr}
 use Rattle.records.specs.declared.nlmsgerr.Nlmsgerr.{Nlmsgerr}
-use Rattle.requests.specs.Asks.{Key}
 use Rattle.requests.specs.FilterMessages.{filter_bytes, filter_fault}
 use Rattle.requests.specs.Refusals.{room_fault, unless, written}
 use Rattle.requests.specs.declared.fault.ArgumentFault.{ArgumentFault}
+use Rattle.capped.specs.Values.{room as room_for}
+use Rattle.capped.specs.declared.list.Full.{Full}
 use Rattle.queue.specs.Cuts.{bulk, takes}
 use Rattle.hosts.specs.Meaning.{Filter}
 use Rattle.filters.specs.Fitting.{Stands}
@@ -29,32 +30,22 @@ unfolding done_bytes
 done_laid o1 h ph p1 = p1 ∙ ap (λ (x : Nlmsghdr). nlmsghdr_bytes x ++ (0 ∷ 0 ∷ 0 ∷ 0 ∷ [])) ph
 
 -- a filter that stands is written whole into 324 bytes
-pub told_written : (flags : ℕ) (f : Filter) (k : Key) (kind : List ℕ) (name : Option (List ℕ)) (r : Result ℕ ArgumentFault) → Stands f → k ≡ f.key → kind ≡ f.kind → name ≡ f.name →
-    r ≡ written (filter_fault k kind name) (filter_bytes flags k kind name) 324 → r ≡ Ok (length (told_bytes flags f))
-told_written flags f k kind name r s a b c e =
+pub told_written : (flags : ℕ) (f g : Filter) (r : Result ℕ ArgumentFault) → Stands f → g ≡ f →
+    r ≡ written (filter_fault g.key g.kind g.name) (filter_bytes flags g.key g.kind g.name) 324 → r ≡ Ok (length (told_bytes flags f))
+told_written flags f g r s a e =
     let n = (told_long flags f s).1 in
     let fits : room_fault 324 (length (told_bytes flags f)) ≡ None = grind (arith, nat_tests) in
     let fault : filter_fault f.key f.kind f.name ≡ None = (filter_parts f.key f.kind f.name s.0).0 in
     e
-    ∙ ap (λ (x : Key). written (filter_fault x kind name) (filter_bytes flags x kind name) 324) a
-    ∙ ap (λ (x : List ℕ). written (filter_fault f.key x name) (filter_bytes flags f.key x name) 324) b
-    ∙ ap (λ (x : Option (List ℕ)). written (filter_fault f.key f.kind x) (filter_bytes flags f.key f.kind x) 324) c
+    ∙ ap (λ (x : Filter). written (filter_fault x.key x.kind x.name) (filter_bytes flags x.key x.kind x.name) 324) a
     ∙ ap (λ (x : Option ArgumentFault). written x (told_bytes flags f) 324) fault
     ∙ ap (λ (x : Option ArgumentFault). unless x (length (told_bytes flags f))) fits
 
-pub told_front : (flags : ℕ) (f : Filter) (k : Key) (kind : List ℕ) (name : Option (List ℕ)) (n : ℕ) (last zeros : List ℕ) → k ≡ f.key → kind ≡ f.kind → name ≡ f.name →
-    n ≡ length (told_bytes flags f) → last ≡ filter_bytes flags k kind name ++ drop n zeros → take (n - 0) last ≡ told_bytes flags f
-told_front flags f k kind name n last zeros a b c e q =
-    let m : n - 0 ≡ length (told_bytes flags f) = omega arith in
-    let s : filter_bytes flags k kind name ≡ told_bytes flags f =
-    ap (λ (x : Key). filter_bytes flags x kind name) a ∙ ap (λ (x : List ℕ). filter_bytes flags f.key x name) b ∙ ap (λ (x : Option (List ℕ)). filter_bytes flags f.key f.kind x) c in
-    ap (take (n - 0)) q ∙ ap (λ (x : List ℕ). take (n - 0) (x ++ drop n zeros)) s ∙ take_at (told_bytes flags f) (drop n zeros) (n - 0) (sym m)
-
-pub ok_number : (r : Result ℕ ArgumentFault) (n m : ℕ) → r ≡ Ok n → r ≡ Ok m → n ≡ m
-ok_number r n m p q = cc
-
-pub ok_not_err : (r : Result ℕ ArgumentFault) (n : ℕ) (e : ArgumentFault) → r ≡ Ok n → r ≡ Err e → ⊥
-ok_not_err r n e p q = let z : ◌≡◌ {A = ℕ} 0 1 = cc in omega arith
+pub told_front : (flags : ℕ) (f g : Filter) (n : ℕ) (last zeros : List ℕ) → g ≡ f →
+    n ≡ length (told_bytes flags f) → last ≡ filter_bytes flags g.key g.kind g.name ++ drop n zeros → take n last ≡ told_bytes flags f
+told_front flags f g n last zeros a e q =
+    let s : filter_bytes flags g.key g.kind g.name ≡ told_bytes flags f = ap (λ (x : Filter). filter_bytes flags x.key x.kind x.name) a in
+    ap (take n) q ∙ ap (λ (x : List ℕ). take n (x ++ drop n zeros)) s ∙ take_at (told_bytes flags f) (drop n zeros) n (sym e)
 
 -- room for one more
 room : (ws : List (List ℕ)) (m : List ℕ) → 16 ≤ length m → length m ≤ 384 → bulk ws ≤ 16000 → takes ws m ≡ true
@@ -64,10 +55,15 @@ room ws m a b c =
     let z : leb (bulk ws + length m) 16384 ≡ true = grind (arith, nat_tests) in
     cc
 
-pub has_room : (r : Bool) (ws ws' : List (List ℕ)) (added : List ℕ → List (List ℕ)) (piece m : List ℕ) → piece ≡ m → 16 ≤ length m → length m ≤ 384 → bulk ws ≤ 16000 →
-    r ≡ takes ws piece → ws' ≡ cond r (added piece) ws → ws' ≡ added m
-has_room r ws ws' added piece m e a b c p q =
-    q ∙ ap (λ (x : Bool). cond x (added piece) ws) (p ∙ ap (takes ws) e ∙ room ws m a b c) ∙ ap added e
+module _ (ws : List (List ℕ)) (piece m : List ℕ) (e : piece ≡ m) (a : 16 ≤ length m) (b : length m ≤ 384) (c : bulk ws ≤ 16000) where
+  taken : takes ws piece ≡ true
+  taken = ap (takes ws) e ∙ room ws m a b c
+
+  pub has_room : (added : List ℕ → List (List ℕ)) (ws' : List (List ℕ)) → ws' ≡ cond (takes ws piece) (added piece) ws → ws' ≡ added m
+  has_room added ws' q = q ∙ ap (λ (x : Bool). cond x (added piece) ws) taken ∙ ap added e
+
+  pub not_full : (r : Result (Unit {0}) Full) → r ≡ room_for (takes ws piece) → r ≡ Ok tt
+  not_full r p = p ∙ ap room_for taken
 
 pub answer_room : (q : List ℕ) (s : ℤ) → (16 ≤ length (answer_bytes q s)) × (length (answer_bytes q s) ≤ 384)
 answer_room q s = (omega (arith, answer_long q s), omega (arith, answer_long q s))
@@ -77,3 +73,6 @@ done_room = (omega (arith, done_long), omega (arith, done_long))
 
 pub told_room : (flags : ℕ) (f : Filter) → Stands f → (16 ≤ length (told_bytes flags f)) × (length (told_bytes flags f) ≤ 384)
 told_room flags f s = let l = told_long flags f s in (omega (arith, l.0), omega (arith, l.1))
+
+pub ok_same : {X E : Type 0} (n m : X) → ◌≡◌ {A = Result X E} (Ok n) (Ok m) → n ≡ m
+ok_same n m e = cc

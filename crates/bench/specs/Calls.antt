@@ -1,11 +1,13 @@
 -- The calls of the bench host: what each answers, and what stands and waits then.
-use Rattle.std.specs.Prelude.{◌≡◌, ℕ, ◌+◌, Bool, cond, List, [], ◌∷◌, ◌++◌, drop, ℤ, pos, negsuc, Ok, Err, Option, Result, nat_le}
+use Rattle.std.specs.Prelude.{◌≡◌, ℕ, ◌+◌, Bool, cond, List, [], ◌∷◌, ◌++◌, drop, pos, Ok, Err, Result, nat_le}
 use Rattle.requests.specs.Asks.{Key, Ask}
 use Rattle.requests.specs.Back.{Writes}
 use Rattle.queue.specs.Cuts.{bulk}
 use Rattle.hosts.specs.Events.{Answer, Event, opened, sent, received, Got, datagram, failed}
 use Rattle.hosts.specs.Meaning.{Filter}
-use Rattle.filters.specs.Fitting.{is_filter, filter_of}
+use Rattle.filters.specs.Fitting.{is_filter, filter_with}
+use Rattle.filters.specs.declared.refusal.Refusal.{Refusal}
+use Rattle.filters.specs.declared.refusal.Refusal.TheVariants.{Invalid}
 use Rattle.filters.specs.Keys.{admitted, added}
 use Rattle.bench.specs.Serving.{Outcome, granted, served}
 
@@ -56,20 +58,24 @@ Calls s (opened r) t = (r ≡ Ok tt) × (t ≡ state s.filters [])
 Calls s (sent q r) t = Sends s q r t
 Calls s (received n g) t = (g ≡ came n s.waiting) × (t ≡ state s.filters (rest n s.waiting))
 
--- being given a filter, on the terms of an attach: its key, or a status; -22 for what can be no filter here
-abbrev pub as_key : Key → Result (Unit {0}) ℤ → Result Key ℤ
+-- being given a filter, on the terms of an attach: its key, or why not
+abbrev pub as_key : Key → Result (Unit {0}) Refusal → Result Key Refusal
 as_key k (Ok u) = Ok k
-as_key k (Err status) = Err status
+as_key k (Err r) = Err r
 
-abbrev pub admittance : Key → List ℕ → Option (List ℕ) → List Filter → Result (Unit {0}) ℤ
-admittance k kind name fs = cond (is_filter k kind name) (admitted k fs) (Err (negsuc 21))
+abbrev pub admittance : Filter → List Filter → Result (Unit {0}) Refusal
+admittance f fs = cond (is_filter f) (admitted f.key fs) (Err Invalid)
 
-abbrev pub given : Key → List ℕ → Option (List ℕ) → List Filter → Result Key ℤ
-given k kind name fs = as_key (granted k fs) (admittance (granted k fs) kind name fs)
+-- the filter that is asked for, under the key that it gets
+abbrev pub under_key : Filter → List Filter → Filter
+under_key f fs = filter_with (granted f.key fs) f.kind f.name
 
-abbrev pub with_given : Key → List ℕ → Option (List ℕ) → List Filter → List Filter
-with_given k kind name fs = added (admittance (granted k fs) kind name fs) (filter_of (granted k fs) kind name) fs
+abbrev pub given : Filter → List Filter → Result Key Refusal
+given f fs = as_key (granted f.key fs) (admittance (under_key f fs) fs)
 
-abbrev pub mapped_ok : {X Y : Type 0} → (X → Y) → Result X ℤ → Result Y ℤ
+abbrev pub with_given : Filter → List Filter → List Filter
+with_given f fs = added (admittance (under_key f fs) fs) (under_key f fs) fs
+
+abbrev pub mapped_ok : {X Y E : Type 0} → (X → Y) → Result X E → Result Y E
 mapped_ok f (Ok x) = Ok (f x)
 mapped_ok f (Err e) = Err e

@@ -24,7 +24,7 @@ use Rattle.reader.proofs.Messaging.{messages_read}
 use Rattle.queue.specs.Cuts.{bulk, joined}
 use Rattle.hosts.specs.Meaning.{Filter, In, Apart, keys, Datagram}
 use Rattle.hosts.specs.Rules.{same_key}
-use Rattle.filters.specs.Fitting.{Stands, is_filter, passes, may_be_named}
+use Rattle.filters.specs.Fitting.{Stands, is_filter, filter_with, passes, may_be_named}
 use Rattle.filters.specs.Keys.{taken, distinct}
 use Rattle.bench.specs.Replies.{told, told_bytes, answer, answer_bytes, done, done_bytes, pages}
 use Rattle.bench.specs.Wholeness.{some, is_datagram, all_datagrams}
@@ -134,7 +134,7 @@ passes_none : (f : Option ArgumentFault) → passes f ≡ true → f ≡ None
 passes_none None e = refl
 passes_none (Some f) e = let z : ◌≡◌ {A = ℕ} 0 1 = cc in absurd (omega arith)
 
-pub filter_parts : (key : Key) (kind : List ℕ) (name : Option (List ℕ)) → is_filter key kind name ≡ true → (filter_fault key kind name ≡ None) × (length kind ≤ 15)
+pub filter_parts : (key : Key) (kind : List ℕ) (name : Option (List ℕ)) → is_filter (filter_with key kind name) ≡ true → (filter_fault key kind name ≡ None) × (length kind ≤ 15)
 filter_parts key kind name e =
     let some : Bool = leb 1 (length kind) in
     let short : Bool = leb (length kind) 15 in

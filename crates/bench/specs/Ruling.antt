@@ -20,9 +20,10 @@ use Rattle.hosts.specs.Meaning.{Filter, bpf, In, keys, Meant}
 use Rattle.hosts.specs.Shapes.{Echoes}
 use Rattle.hosts.specs.Rules.{same_key, under, renamed, without, Chosen, asked, free, Grants, Served, refused, xdp, clsact, attached, replaced, removed, listed as listing_served, Accepts, Within, none, lose, Rule}
 use Rattle.filters.specs.Fitting.{passes, Stands}
+use Rattle.filters.specs.declared.refusal.Refusal.TheVariants.{NoEntry, Exists, Invalid, NoSpace}
 use Rattle.filters.specs.Keys.{taken, distinct, is_bpf, with_handle, lowest_free}
 use Rattle.hosts.specs.Losses.{within_refl}
-use Rattle.hosts.proofs.Keyed.{same_key_lem, clash, untaken_without}
+use Rattle.keyed.proofs.Keyed.{same_key_lem, clash, untaken_without}
 use Rattle.bench.specs.Replies.{told, answer, done}
 use Rattle.bench.specs.Wholeness.{all_datagrams}
 use Rattle.bench.specs.Serving.{Outcome, answered, prioritized, granted, named, attaching, replacing, status_of, served, is_under}
@@ -131,7 +132,7 @@ module _ (fs : List Filter) (q : List ℕ) (a : AllByRecursion Stands fs) where
       stands : Stands f
       stands = (granted_stands k fs p.name (attach_fault (attach k p) k p q refl w), granted_fits k fs w.fits.0)
 
-      by : (b : Bool) → taken g fs ≡ b → (c : Bool) → nat_le 32 (length fs) ≡ c → Serves fs q (attach k p) (attaching (cond b (Err (negsuc 16)) (cond c (Err (negsuc 27)) (Ok tt))) f q fs)
+      by : (b : Bool) → taken g fs ≡ b → (c : Bool) → nat_le 32 (length fs) ≡ c → Serves fs q (attach k p) (attaching (cond b (Err Exists) (cond c (Err NoSpace) (Ok tt))) f q fs)
       by true t c l = refusing fs q (attach k p) 16 (omega arith)
       by false t true l = refusing fs q (attach k p) 27 (omega arith)
       by false t false l = record {
@@ -142,7 +143,7 @@ module _ (fs : List Filter) (q : List ℕ) (a : AllByRecursion Stands fs) where
 
   serves_replace : (k : Key) (p : Program) → Writes (replace k p) q → Serves fs q (replace k p) (served fs q (replace k p))
   serves_replace k p w =
-      subst (λ (x : Option ArgumentFault). Serves fs q (replace k p) (replacing (cond (passes x) (cond (is_bpf k fs) (Ok tt) (Err (negsuc 1))) (Err (negsuc 21))) k p.name q fs)) (sym name)
+      subst (λ (x : Option ArgumentFault). Serves fs q (replace k p) (replacing (cond (passes x) (cond (is_bpf k fs) (Ok tt) (Err NoEntry)) (Err Invalid)) k p.name q fs)) (sym name)
       (by (is_bpf k fs) refl)
     where
       name : name_fault p.name ≡ None
@@ -161,14 +162,14 @@ module _ (fs : List Filter) (q : List ℕ) (a : AllByRecursion Stands fs) where
             cut = cut_echo 0x000D f q (pos 0) (omega arith) stands;
           }
 
-      by : (b : Bool) → is_bpf k fs ≡ b → Serves fs q (replace k p) (replacing (cond b (Ok tt) (Err (negsuc 1))) k p.name q fs)
+      by : (b : Bool) → is_bpf k fs ≡ b → Serves fs q (replace k p) (replacing (cond b (Ok tt) (Err NoEntry)) k p.name q fs)
       by true b = there b
       by false b = refusing fs q (replace k p) 1 (omega arith)
 
   serves_remove : (k : Key) → Serves fs q (remove k) (served fs q (remove k))
   serves_remove k = by (taken k fs) refl
     where
-      by : (b : Bool) → taken k fs ≡ b → Serves fs q (remove k) (answered q (status_of (cond b (Ok tt) (Err (negsuc 1)))) (without k fs))
+      by : (b : Bool) → taken k fs ≡ b → Serves fs q (remove k) (answered q (status_of (cond b (Ok tt) (Err NoEntry))) (without k fs))
       by true t = record { messages = answer q (pos 0) ∷ []; effect = removed (taken_in k fs t) (acknowledges q); cut = cut_answer q (pos 0) }
       by false t =
           record {

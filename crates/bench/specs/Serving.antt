@@ -1,10 +1,12 @@
 -- What the bench host does about a request.
-use Rattle.std.specs.Prelude.{ℕ, Bool, cond, ◌&&◌, List, [], ◌∷◌, ◌++◌, map, ℤ, pos, Some, None, Ok, Err, Option, Result, ◌==◌}
+use Rattle.std.specs.Prelude.{ℕ, Bool, cond, ◌&&◌, List, [], ◌∷◌, ◌++◌, map, ℤ, pos, Some, Ok, Err, Result, ◌==◌}
 use Rattle.requests.specs.Asks.{Key, Ask, set_xdp, add_clsact, attach, replace, remove, list}
 use Rattle.queue.specs.Cuts.{joined}
 use Rattle.hosts.specs.Meaning.{Filter, bpf}
 use Rattle.hosts.specs.Rules.{without, renamed, under}
-use Rattle.filters.specs.Fitting.{filter_of}
+use Rattle.filters.specs.Fitting.{filter_with}
+use Rattle.filters.specs.Statuses.{status}
+use Rattle.filters.specs.declared.refusal.Refusal.{Refusal}
 use Rattle.filters.specs.Keys.{with_handle, lowest_free, admitted, renaming, removing}
 use Rattle.bench.specs.Replies.{told_bytes, answer_bytes, done_bytes, pages}
 
@@ -29,19 +31,19 @@ abbrev pub granted : Key → List Filter → Key
 granted k fs = cond (k.handle == 0) (with_handle (prioritized k) (lowest_free (prioritized k) fs)) (prioritized k)
 
 abbrev pub named : Key → List ℕ → Filter
-named k name = filter_of k bpf (Some name)
+named k name = filter_with k bpf (Some name)
 
-abbrev pub attaching : Result (Unit {0}) ℤ → Filter → List ℕ → List Filter → Outcome
+abbrev pub attaching : Result (Unit {0}) Refusal → Filter → List ℕ → List Filter → Outcome
 attaching (Ok u) f q fs = echoed 0x060D f q (fs ++ (f ∷ []))
-attaching (Err status) f q fs = answered q status fs
+attaching (Err r) f q fs = answered q (status r) fs
 
-abbrev pub replacing : Result (Unit {0}) ℤ → Key → List ℕ → List ℕ → List Filter → Outcome
+abbrev pub replacing : Result (Unit {0}) Refusal → Key → List ℕ → List ℕ → List Filter → Outcome
 replacing (Ok u) k name q fs = echoed 0x000D (named k name) q (map (renamed k name) fs)
-replacing (Err status) k name q fs = answered q status fs
+replacing (Err r) k name q fs = answered q (status r) fs
 
-abbrev pub status_of : Result (Unit {0}) ℤ → ℤ
+abbrev pub status_of : Result (Unit {0}) Refusal → ℤ
 status_of (Ok u) = pos 0
-status_of (Err status) = status
+status_of (Err r) = status r
 
 abbrev pub listing : ℕ → ℕ → List Filter → List (List ℕ)
 listing interface parent fs = pages (map (told_bytes 2) (under interface parent fs)) ++ (done_bytes ∷ [])
@@ -59,6 +61,5 @@ served fs q (list i p) = record { reply = listing i p fs; filters = fs }
 abbrev pub is_under : ℕ → ℕ → Filter → Bool
 is_under interface parent f = f.key.interface == interface && f.key.parent == parent
 
-abbrev pub listed_one : ℕ → ℕ → Option Filter → List (List ℕ) → List (List ℕ)
-listed_one interface parent None ws = ws
-listed_one interface parent (Some f) ws = cond (is_under interface parent f) (joined ws (told_bytes 2 f)) ws
+abbrev pub listed_one : ℕ → ℕ → Filter → List (List ℕ) → List (List ℕ)
+listed_one interface parent f ws = cond (is_under interface parent f) (joined ws (told_bytes 2 f)) ws

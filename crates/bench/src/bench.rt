@@ -11,6 +11,7 @@ pub mod lawful;
 mod serve;
 
 // A host to rehearse on: 32 filters, 16,384 bytes that wait, and no memory beside itself.
+// No `impl Model`: a Copy type has none that forgets what stands where no value does.
 #[derive(Clone, Copy)]
 pub struct Bench {
     filters: Filters,

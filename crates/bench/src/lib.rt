@@ -2,3 +2,4 @@
 
 pub mod bench;
 mod reply;
+mod sent;

@@ -1,30 +1,22 @@
 ghost use Rattle.std.specs.Prelude.{◌≡◌, ℕ, ◌+◌, ◌≤◌, [], ◌∷◌, ◌++◌, length, take, drop};
-ghost use Rattle.std.specs.Option.{option_map};
 ghost use Rattle.requests.specs.Handles.{bits_of};
 ghost use Rattle.queue.specs.Cuts.{bulk, joined};
 ghost use Rattle.queue.specs.Waiting.{waiting};
 ghost use Rattle.filters.specs.Rows.{meaning};
 ghost use Rattle.filters.specs.Held.{held};
 ghost use Rattle.bench.specs.Replies.{told_bytes, answer_bytes, done_bytes};
-ghost use Rattle.bench.specs.Serving.{listing, is_under, listed_one};
+ghost use Rattle.bench.specs.Serving.{listing, is_under};
 
+use crate::sent::Sent;
 use filters::row::Row;
 use filters::store::Filters;
+use keyed::row::Keyed;
 use queue::queue::Queue;
 use records::nlmsgerr::Nlmsgerr;
 use records::nlmsghdr::Nlmsghdr;
+use records::numbers::{NLM_F_CAPPED, NLM_F_MULTI, NLMSG_DONE, NLMSG_ERROR, SEQUENCE};
 use records::record::{Record, write};
-use requests::filter::write_filter_message;
-use requests::handle::TcHandle;
-use requests::numbers::SEQUENCE;
-
-const NLMSG_ERROR: u16 = 2;
-
-const NLMSG_DONE: u16 = 3;
-
-const NLM_F_MULTI: u16 = 0x0002;
-
-const NLM_F_CAPPED: u16 = 0x0100;
+use requests::request::Hook;
 
 // The header of a message that answers, of `len` bytes in all.
 fn header(len: u32, kind: u16, flags: u16) -> Nlmsghdr
@@ -39,24 +31,19 @@ fn header(len: u32, kind: u16, flags: u16) -> Nlmsghdr
     }
 }
 
-fn put<R: Record>(record: &R, out: &mut [u8], at: usize)
+fn put<R: Record>(head: &R, out: &mut [u8], at: usize)
     requires { at + R.wide ≤ length out.old }
-    ensures { out.new ≡ take at out.old ++ (R.bytes «record».now ++ drop (at + R.wide) out.old) }
+    ensures { out.new ≡ take at out.old ++ (R.bytes head.now ++ drop (at + R.wide) out.old) }
 {
-    let Some(_) = write(record, out, at) else {
-        unreachable()
-    };
+    write(head, out, at).unwrap();
 }
 
 // The 36 bytes of an answer to a request.
-fn answer(request: &[u8], status: i32) -> [u8; 36]
-    requires { 16 ≤ length request.now }
-    ensures { result ≡ answer_bytes request.now status }
+pub(crate) fn answer(request: Sent<'_>, status: i32) -> [u8; 36]
+    ensures { result ≡ answer_bytes request.entry.bytes.now status }
 {
     let mut out = [0u8; 36];
-    let Some((asked, _)) = Nlmsghdr::decode(request) else {
-        unreachable()
-    };
+    let (asked, _) = Nlmsghdr::decode(request.bytes).unwrap();
     let error = Nlmsgerr {
         status,
         header: asked,
@@ -75,20 +62,12 @@ fn done() -> [u8; 20]
     out
 }
 
-// Puts an answer behind what waits, in a datagram of its own.
-pub(crate) fn put_answer(reply: &mut Queue, request: &[u8], status: i32)
-    requires { (16 ≤ length request.now) × (bulk (waiting reply.old) ≤ 16000) }
-    ensures { waiting reply.new ≡ waiting reply.old ++ (answer_bytes request.now status ∷ []) }
+// Puts a message behind what waits, in a datagram of its own.
+pub(crate) fn put_alone(reply: &mut Queue, message: &[u8])
+    requires { (16 ≤ length message.now) × ((length message.now ≤ 384) × (bulk (waiting reply.old) ≤ 16000)) }
+    ensures { waiting reply.new ≡ waiting reply.old ++ (message.now ∷ []) }
 {
-    reply.push(&answer(request, status));
-}
-
-// Puts the end of a listing behind what waits, in a datagram of its own.
-fn put_done(reply: &mut Queue)
-    requires { bulk (waiting reply.old) ≤ 16000 }
-    ensures { waiting reply.new ≡ waiting reply.old ++ (done_bytes ∷ []) }
-{
-    reply.push(&done());
+    reply.push(message).unwrap();
 }
 
 // Puts the message of a filter behind what waits, into the last datagram if it has room.
@@ -97,39 +76,27 @@ pub(crate) fn put_row(reply: &mut Queue, row: &Row, flags: u16)
     ensures { waiting reply.new ≡ joined (waiting reply.old) (told_bytes flags (meaning row.now)) }
 {
     let mut out = [0u8; 324];
-    let Ok(n) = write_filter_message(flags, row.key(), row.kind(), row.name(), &mut out) else {
-        unreachable()
-    };
-    reply.join(&out[0..n]);
+    let n = row.filter().write(flags, &mut out).unwrap();
+    reply.join(&out[..n]).unwrap();
 }
 
-// The reply to a listing: the filters under a parent, in order, and the end.
-pub(crate) fn list(filters: &Filters, interface: u32, parent: TcHandle) -> Queue
-    ensures { waiting result ≡ listing interface (bits_of parent) (held filters.now) }
+// The reply to a listing: the filters that hang there, in order, and the end.
+pub(crate) fn list(filters: &Filters, hook: Hook) -> Queue
+    ensures { waiting result ≡ listing hook.interface (bits_of hook.parent) (held filters.now) }
 {
     let mut reply = Queue::new();
-    for i in 0..filters.len() {
-        put_if_under(&mut reply, filters.get(i), interface, parent);
+    for row in filters.rows() {
+        if is_under(row, hook) {
+            put_row(&mut reply, row, NLM_F_MULTI);
+        }
     }
-    put_done(&mut reply);
+    put_alone(&mut reply, &done());
     reply
 }
 
-// Whether a filter is under a parent.
-fn is_under(row: &Row, interface: u32, parent: TcHandle) -> bool
-    ensures { result ≡ is_under interface (bits_of parent) (meaning row.now) }
+// Whether a filter hangs there.
+fn is_under(row: &Row, hook: Hook) -> bool
+    ensures { result ≡ is_under hook.interface (bits_of hook.parent) (meaning row.now) }
 {
-    let key = row.key();
-    key.interface == interface && key.parent.bits() == parent.bits()
-}
-
-fn put_if_under(reply: &mut Queue, row: Option<Row>, interface: u32, parent: TcHandle)
-    requires { bulk (waiting reply.old) ≤ 16000 }
-    ensures { waiting reply.new ≡ listed_one interface (bits_of parent) (option_map meaning row) (waiting reply.old) }
-{
-    if let Some(row) = row {
-        if is_under(&row, interface, parent) {
-            put_row(reply, &row, NLM_F_MULTI);
-        }
-    }
+    row.key().hook() == hook
 }

@@ -1,72 +1,73 @@
 -- The loop that receives a reply: whatever the rest comes to from here is what all of it comes to. Assumes nothing.
-use Rattle.std.proofs.Common.{◌≡◌, ℕ, ◌+◌, ◌<◌, ◌≤◌, Bool, true, false, List, [], ◌∷◌, length, ℤ, Ok, Option, Result, sym, refl, ap, ◌∙◌, subst, arith}
+use Rattle.std.proofs.Common.{◌≡◌, ℕ, ◌+◌, ◌<◌, ◌≤◌, Bool, true, false, List, length, ℤ, Ok, Err, Result, refl, sym, ◌∙◌, subst, arith}
 use Rattle.reader.specs.Replies.{State, at, took, over}
 use Rattle.reader.specs.declared.stage.Stage.TheVariants.{Going}
+use Rattle.reader.specs.declared.stage.Stage.{Stage}
 use Rattle.reader.specs.declared.fault.TurnFault.{TurnFault}
-use Rattle.hosts.specs.Events.{Event, opened, sent, received, datagram, failed, laid}
-use Rattle.driver.specs.Exchanges.{Close, lost, stopped, Receives, fails, more, ended, full, overlay, came, Collected, Told, replied, closing, ended_by}
-use Rattle.driver.specs.declared.exchange.Closing.{Closing}
+use Rattle.hosts.specs.Events.{Event, received, datagram, failed, laid}
+use Rattle.driver.specs.declared.fault.ExchangeFault.{ExchangeFault}
+use Rattle.driver.specs.declared.fault.ExchangeFault.TheVariants.{Open, Send, Receive, Turn}
+use Rattle.driver.specs.Exchanges.{unopened, unsent, not_opened, not_sent, replied, Sends, Told, Close, lost, stopped, Receives, fails, more, ended, full, overlay, came, Collected, Replied, read_as}
 
-module _ {H T : Type 0} (did : H → Event → H → Type 0) (fed : T → List ℕ → Result T TurnFault) (size : ℕ) where
-  -- the same from an equal state
-  move : {i : ℕ} {s u : State T} {h : H} {c : Close} {t : State T} {k : H} → s ≡ u → (r : Receives did fed size i s h c t k) →
-      (q : Receives did fed size i u h c t k) × (came did fed size r ≡ came did fed size q)
-  move {i} {h} {c} {t} {k} e r = subst (λ (x : State T). (q : Receives did fed size i x h c t k) × (came did fed size r ≡ came did fed size q)) e (r, refl)
+module _ {H T : Type 0} (did : H → Event → H → Type 0) (fed : T → List ℕ → Result T TurnFault) (s₀ : State T) (h₀ : H) (b₀ : List ℕ) where
+  pub record Leads (i : ℕ) (s : State T) (h : H) (b : List ℕ) : Type 0 where
+    pub on : (c : Close) (t : State T) (k : H) (r : Receives did fed (length b₀) i s h c t k) →
+        Collected did fed (length b₀) s₀ h₀ b₀ c t (i + length (came did fed (length b₀) r)) k (overlay b (came did fed (length b₀) r))
 
-  pub record Leads (s₀ : State T) (h₀ : H) (b₀ : List ℕ) (i : ℕ) (s : State T) (h : H) (b : List ℕ) : Type 0 where
-    pub on : (c : Close) (t : State T) (k : H) (r : Receives did fed size i s h c t k) →
-        Collected did fed size s₀ h₀ b₀ c t (i + length (came did fed size r)) k (overlay b (came did fed size r))
-    pub small : i ≤ 4096
-    pub long : length b ≡ size
+module _ {H T : Type 0} {did : H → Event → H → Type 0} {fed : T → List ℕ → Result T TurnFault} {s₀ : State T} {h₀ : H} {b₀ : List ℕ} where
+  -- where no more came
+  here : {c : Close} {t : State T} {k : H} {n : ℕ} {b : List ℕ} → Collected did fed (length b₀) s₀ h₀ b₀ c t (n + 0) k b → Collected did fed (length b₀) s₀ h₀ b₀ c t n k b
+  here x = record { trace = x.trace; laid = x.laid; count = omega (arith, x.count) }
 
-  retold : {s₀ : State T} {h₀ : H} {b₀ : List ℕ} {c : Close} {t : State T} {k : H} {n m : ℕ} {b b' : List ℕ} → n ≡ m → b ≡ b' →
-      Collected did fed size s₀ h₀ b₀ c t m k b' → Collected did fed size s₀ h₀ b₀ c t n k b
-  retold p q x = record { trace = x.trace; laid = q ∙ x.laid; count = p ∙ x.count }
+  module _ {i : ℕ} {s : State T} {h : H} {b : List ℕ} (l : Leads did fed s₀ h₀ b₀ i s h b) where
+    pub one_more : (d : List ℕ) {j : H} {u : State T} {b' : List ℕ} → length b ≡ length b₀ → did h (received (length b) (datagram d)) j → b' ≡ laid b (datagram d) →
+        u ≡ took fed s d → over s.stage ≡ false → i < 4096 → Leads did fed s₀ h₀ b₀ (i + 1) u j b'
+    one_more d size p f e o w = rw (e, f) (record {
+      on = λ c t k r.
+          let x = l.on c t k (more w o (rw (← size) p) r) in
+          record { trace = x.trace; laid = x.laid; count = omega (arith, x.count) };
+    })
 
-  pub start : (s : State T) (h : H) (b : List ℕ) → length b ≡ size → Leads s h b 0 s h b
-  start s h b l = record { on = λ c t k r. record { trace = r; laid = refl; count = omega arith }; small = omega arith; long = l }
+  module _ {i n : ℕ} {x : Stage} {u : T} {h : H} {b : List ℕ} (l : Leads did fed s₀ h₀ b₀ i (at x u) h b) where
+    pub at_failure : {e z : ℤ} {j : H} {b' : List ℕ} → did h (received (length b) (failed e)) j → b' ≡ b → z ≡ e → n ≡ i → over x ≡ false → i < 4096 → length b ≡ length b₀ →
+        Replied did fed s₀ h₀ b₀ (Err (Receive z)) u n j b'
+    at_failure {e} {j = j} p f same m o w size = rw (same, f, m) (record {
+      close = lost e;
+      final = at x u;
+      collected = here (l.on (lost e) (at x u) j (fails w o (rw (← size) p)));
+      closes = refl;
+      table = refl;
+    })
 
-  module _ {s₀ : State T} {h₀ : H} {b₀ : List ℕ} {i : ℕ} {s : State T} {h : H} {b : List ℕ} (l : Leads s₀ h₀ b₀ i s h b) where
-    pub one_more : (d : List ℕ) {j : H} {u : State T} {b' : List ℕ} → did h (received (length b) (datagram d)) j → b' ≡ laid b (datagram d) → length b' ≡ length b →
-        u ≡ took fed s d → over s.stage ≡ false → i < 4096 → Leads s₀ h₀ b₀ (i + 1) u j b'
-    one_more d {j} {u} {b'} p f z e o w =
-        record {
-          on = λ c t k r.
-              let m = move e r in
-              let p' : did h (received size (datagram d)) j = subst (λ (x : ℕ). did h (received x (datagram d)) j) l.long p in
-              let n : i + 1 + length (came did fed size r) ≡ i + length (d ∷ came did fed size m.0) = let y = ap length m.1 in omega arith in
-              retold n (ap (λ (x : List ℕ). overlay x (came did fed size r)) f ∙ ap (overlay (laid b (datagram d))) m.1) (l.on c t k (more w o p' m.0));
-          small = omega arith;
-          long = z ∙ l.long;
-        }
+    pub at_end : {r : Result (Unit {0}) ExchangeFault} → r ≡ read_as x → n ≡ i → over x ≡ true → Replied did fed s₀ h₀ b₀ r u n h b
+    at_end z m o = rw m (record { close = stopped; final = at x u; collected = here (l.on stopped (at x u) h (ended o)); closes = z; table = refl })
 
-    pub at_failure : (e z : ℤ) {j : H} {b' : List ℕ} → z ≡ e → did h (received (length b) (failed e)) j → b' ≡ b → over s.stage ≡ false → i < 4096 →
-        Collected did fed size s₀ h₀ b₀ (lost z) s i j b'
-    at_failure e z {j} {b'} same p f o w =
-        subst (λ (x : ℤ). Collected did fed size s₀ h₀ b₀ (lost x) s i j b') (sym same)
-        (retold (omega arith) f (l.on (lost e) s j (fails w o (subst (λ (x : ℕ). did h (received x (failed e)) j) l.long p))))
-
-    pub at_end : over s.stage ≡ true → Collected did fed size s₀ h₀ b₀ stopped s i h b
-    at_end o = retold (omega arith) refl (l.on stopped s h (ended o))
-
-    pub at_limit : 4096 ≤ i → Collected did fed size s₀ h₀ b₀ stopped s i h b
-    at_limit w = by (over s.stage) refl
+    pub at_limit : {r : Result (Unit {0}) ExchangeFault} → r ≡ read_as x → 4096 ≤ i → i ≤ 4096 → n ≡ 4096 → Replied did fed s₀ h₀ b₀ r u n h b
+    at_limit {r} z low high m = by (over x) refl
       where
         all : i ≡ 4096
-        all = omega (arith, l.small)
+        all = omega arith
 
-        by : (x : Bool) → over s.stage ≡ x → Collected did fed size s₀ h₀ b₀ stopped s i h b
-        by true o = at_end o
+        by : (o : Bool) → over x ≡ o → Replied did fed s₀ h₀ b₀ r u n h b
+        by true o = at_end z (m ∙ sym all) o
         by false o =
-            let p : (r : Receives did fed size i s h stopped s h) × (came did fed size r ≡ []) =
-            subst (λ (x : ℕ). (r : Receives did fed size x s h stopped s h) × (came did fed size r ≡ [])) (sym all) (full o, refl) in
-            retold (let z = ap length p.1 in omega arith) (ap (overlay b) (sym p.1)) (l.on stopped s h p.0)
+            let y = (subst (λ k. Leads did fed s₀ h₀ b₀ k (at x u) h b) all l).on stopped (at x u) h (full o) in
+            rw m (record { close = stopped; final = at x u; collected = here y; closes = z; table = refl })
 
-module _ {H T : Type 0} (did : H → Event → H → Type 0) (fed : T → List ℕ → Result T TurnFault) where
-  -- a request that was sent, and its reply
-  pub told_replied : (q b : List ℕ) (u : T) (s : State T) (h i j k : H) (t : State T) (n : ℕ) (b' : List ℕ) (f : Option ℤ) (r : Closing) → s ≡ at Going u →
-      did h (opened (Ok tt)) i → did i (sent q (Ok tt)) j → Collected did fed (length b) s j b (ended_by f) t n k b' → r ≡ closing (ended_by f) t.stage →
-      Told did fed q u h b r t.table n k b'
-  told_replied q b u s h i j k t n b' f r e o p x c =
-      let y = subst (λ (z : State T). Collected did fed (length b) z j b (ended_by f) t n k b') e x in
-      record { close = ended_by f; final = t; asked = record { trace = replied o p y.trace; laid = y.laid; count = y.count }; closes = c; table = refl }
+-- the ways out of the loop
+pub ruleset ways_out = (at_failure, at_end, at_limit)
+
+module _ {H T : Type 0} (did : H → Event → H → Type 0) (fed : T → List ℕ → Result T TurnFault) (q b : List ℕ) (u : T) (h : H) where
+  -- a request that was not sent
+  pub told_unasked : (f : ExchangeFault) {k : H} → Sends did q h (Err f) k → Told did fed q u h b (Err f) u 0 k b
+  told_unasked (Open e) p = record { close = unopened e; final = at Going u; asked = record { trace = not_opened p; laid = refl; count = refl }; closes = refl; table = refl }
+  told_unasked (Send e) p = record { close = unsent e; final = at Going u; asked = record { trace = not_sent p.1 p.2; laid = refl; count = refl }; closes = refl; table = refl }
+  told_unasked (Receive e) p = absurd p
+  told_unasked (Turn f) p = absurd p
+
+  -- one that was, and its reply
+  pub told_replied : {j k : H} {r : Result (Unit {0}) ExchangeFault} {u' : T} {n : ℕ} {b' : List ℕ} →
+      Sends did q h (Ok tt) j → Replied did fed (at Going u) j b r u' n k b' → Told did fed q u h b r u' n k b'
+  told_replied p x =
+      let c = x.collected in
+      record { close = x.close; final = x.final; asked = record { trace = replied p.1 p.2 c.trace; laid = c.laid; count = c.count }; closes = x.closes; table = x.table }

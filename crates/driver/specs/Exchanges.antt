@@ -1,13 +1,13 @@
 -- One request and its reply: what the host did, step by step, and what it came to.
-use Rattle.std.specs.Prelude.{◌≡◌, ℕ, ◌+◌, ◌<◌, true, false, List, [], ◌∷◌, length, ℤ, Some, None, Ok, Err, Option, Result}
+use Rattle.std.specs.Prelude.{◌≡◌, ℕ, ◌+◌, ◌<◌, true, false, List, [], ◌∷◌, length, ℤ, Ok, Err, Result}
 use Rattle.reader.specs.Replies.{State, at, took, over}
 use Rattle.reader.specs.declared.fault.TurnFault.{TurnFault}
 use Rattle.reader.specs.declared.fault.TurnFault.TheVariants.{Early}
 use Rattle.reader.specs.declared.stage.Stage.{Stage}
 use Rattle.reader.specs.declared.stage.Stage.TheVariants.{Going, Ended, Faulted}
 use Rattle.hosts.specs.Events.{Event, opened, sent, received, datagram, failed, laid}
-use Rattle.driver.specs.declared.exchange.Closing.{Closing}
-use Rattle.driver.specs.declared.exchange.Closing.TheVariants.{Unopened, Unsent, Lost, Read}
+use Rattle.driver.specs.declared.fault.ExchangeFault.{ExchangeFault}
+use Rattle.driver.specs.declared.fault.ExchangeFault.TheVariants.{Open, Send, Receive, Turn}
 
 -- how it closed: open or send refused, a receive failed, or no more was received
 pub data Close : Type 0 where
@@ -17,16 +17,16 @@ pub data Close : Type 0 where
   stopped : Close
 
 -- a reply that stopped in this stage: 12 where it had not ended
-abbrev pub read_as : Stage → Result (Unit {0}) TurnFault
-read_as Going = Err Early
+abbrev pub read_as : Stage → Result (Unit {0}) ExchangeFault
+read_as Going = Err (Turn Early)
 read_as Ended = Ok tt
-read_as (Faulted f) = Err f
+read_as (Faulted f) = Err (Turn f)
 
-abbrev pub closing : Close → Stage → Closing
-closing (unopened e) stage = Unopened e
-closing (unsent e) stage = Unsent e
-closing (lost e) stage = Lost e
-closing stopped stage = Read (read_as stage)
+abbrev pub closing : Close → Stage → Result (Unit {0}) ExchangeFault
+closing (unopened e) stage = Err (Open e)
+closing (unsent e) stage = Err (Send e)
+closing (lost e) stage = Err (Receive e)
+closing stopped stage = read_as stage
 
 -- the buffer once the datagrams are laid over its front in turn
 abbrev pub overlay : List ℕ → List (List ℕ) → List ℕ
@@ -74,14 +74,26 @@ module _ {H T : Type 0} (did : H → Event → H → Type 0) (fed : T → List �
     pub laid : b' ≡ overlay b (came_of trace)
     pub count : n ≡ length (came_of trace)
 
--- how the receiving of a reply ended: a failure, or none
-abbrev pub ended_by : Option ℤ → Close
-ended_by None = stopped
-ended_by (Some e) = lost e
+module _ {H : Type 0} (did : H → Event → H → Type 0) where
+  -- h was opened and sent q, and what it answered
+  abbrev pub Sends : List ℕ → H → Result (Unit {0}) ExchangeFault → H → Type 0
+  Sends q h (Ok u) k = (j : H) × did h (opened (Ok tt)) j × did j (sent q (Ok tt)) k
+  Sends q h (Err (Open e)) k = did h (opened (Err e)) k
+  Sends q h (Err (Send e)) k = (j : H) × did h (opened (Ok tt)) j × did j (sent q (Err e)) k
+  Sends q h (Err (Receive e)) k = ⊥
+  Sends q h (Err (Turn f)) k = ⊥
 
 module _ {H T : Type 0} (did : H → Event → H → Type 0) (fed : T → List ℕ → Result T TurnFault) where
+  -- the reply from the state s on, with a buffer that held b: there is what was received, and all else is told by it
+  pub record Replied (s : State T) (h : H) (b : List ℕ) (r : Result (Unit {0}) ExchangeFault) (u' : T) (n : ℕ) (k : H) (b' : List ℕ) : Type 0 where
+    pub close : Close
+    pub final : State T
+    pub collected : Collected did fed (length b) s h b close final n k b'
+    pub closes : r ≡ closing close final.stage
+    pub table : u' ≡ final.table
+
   -- the request q was asked of h, with the table u, and a buffer that held b: there is what the host did, and all else is told by it
-  pub record Told (q : List ℕ) (u : T) (h : H) (b : List ℕ) (r : Closing) (u' : T) (n : ℕ) (k : H) (b' : List ℕ) : Type 0 where
+  pub record Told (q : List ℕ) (u : T) (h : H) (b : List ℕ) (r : Result (Unit {0}) ExchangeFault) (u' : T) (n : ℕ) (k : H) (b' : List ℕ) : Type 0 where
     pub close : Close
     pub final : State T
     pub asked : Exchanged did fed (length b) q (at Going u) h b close final n k b'

@@ -1,5 +1,3 @@
-pub mod Laid
+mod Bpf
 pub mod Finding
-pub mod Keyed
-pub mod Editing
-pub mod Lowest
+mod Lowest

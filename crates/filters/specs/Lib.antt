@@ -1,4 +1,5 @@
 pub mod Fitting
+pub mod Statuses
 pub mod Texts
 pub mod Rows
 pub mod Keys

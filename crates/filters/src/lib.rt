@@ -1,5 +1,6 @@
 #![tactic(auto)]
 
+pub mod refusal;
 pub mod row;
 pub mod store;
 pub mod text;

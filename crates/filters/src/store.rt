@@ -1,16 +1,11 @@
-ghost use Rattle.std.specs.Prelude.{◌≡◌, ◌≤◌, true, map, length, take};
-ghost use Rattle.filters.specs.Rows.{meaning};
-ghost use Rattle.filters.specs.Keys.{distinct};
-
 use crate::row::Row;
+use keyed::table::Table;
 
 pub mod edits;
 
 // Up to 32 filters, in the order in which they came. Keys differ.
+// No `impl Model`: a Copy type has none that forgets what stands where no value does.
 #[derive(Clone, Copy)]
 pub struct Filters {
-    rows: [Row; 32],
-    len: usize,
-    ghost ok: { (len ≤ 32) × (length rows ≡ 32) },
-    ghost apart: { distinct (map meaning (take len rows)) ≡ true },
+    table: Table<Row, 32>,
 }

@@ -1,6 +1,5 @@
 pub mod Events
 pub mod Keeping
-pub mod Keyed
 pub mod Losing
 pub mod Meaning
 pub mod Recording

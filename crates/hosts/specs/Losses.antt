@@ -1,6 +1,5 @@
 -- The rules hold above a loss. Assumes nothing.
 use Rattle.std.specs.Prelude.{ℕ, Bool, true, false, List, [], ◌∷◌, pos}
-use Rattle.std.proofs.Common.{sym, subst}
 use Rattle.hosts.specs.Events.{Event, opened, sent, received, Got, datagram, failed}
 use Rattle.hosts.specs.Meaning.{Filter}
 use Rattle.hosts.specs.Rules.{Rule, Within, none, keep, lose}
@@ -11,7 +10,7 @@ within_refl [] = none
 within_refl (x ∷ xs) = keep (within_refl xs)
 
 lost_rule : (n : ℕ) (fs : List Filter) (ws : List (List ℕ)) (g : Got) (fs' : List Filter) (ws' : List (List ℕ)) → Rule fs ws (received 4096 g) fs' ws' → Rule fs ws (received n (failed (pos 105))) fs' ws'
-lost_rule n fs ws (datagram d) fs' ws' p = (p.1, subst (λ (x : List (List ℕ)). Within ws' x) (sym p.2) (lose (within_refl ws')))
+lost_rule n fs ws (datagram d) fs' ws' p = (p.1, rw p.2 (lose (within_refl ws')))
 lost_rule n fs ws (failed e) fs' ws' p = p
 
 module _ {H : Type 0} (did : H → Event → H → Type 0) (filters : H → List Filter) (waiting : H → List (List ℕ))

@@ -3,11 +3,8 @@ use Rattle.std.specs.Prelude.{◌≡◌, ℕ, ◌≤◌, ◌⊎◌, List, [], �
 use Rattle.std.specs.List.{AllByRecursion}
 use Rattle.records.specs.Layouts.{Message, Messages}
 use Rattle.requests.specs.Asks.{Key}
-
-pub record Filter : Type 0 where
-  pub key : Key
-  pub kind : List ℕ
-  pub name : Option (List ℕ)
+-- a filter: its key, its kind, and its name where it has one
+pub use Rattle.requests.specs.FilterMessages.{Filter}
 
 abbrev pub bpf : List ℕ
 bpf = 98 ∷ 112 ∷ 102 ∷ []

@@ -1,12 +1,9 @@
 -- A recording that is played to a session: what it answers to each call, and what is left of it.
-use Rattle.std.specs.Prelude.{◌≡◌, ℕ, Bool, false, cond, ◌⊎◌, List, [], ◌∷◌, ◌++◌, map, length, drop, ℤ, pos, Some, None, Ok, Err, vec_items, Option, nat_lt}
-use Rattle.std.specs.VecDeque.{deque_items}
+use Rattle.std.specs.Prelude.{◌≡◌, ℕ, Bool, false, cond, ◌⊎◌, List, [], ◌∷◌, ◌++◌, map, length, drop, ℤ, pos, Some, None, Ok, Err, vec_items, Option, Result, nat_lt}
+use Rattle.std.specs.Global.{Vec}
 use Rattle.hosts.specs.Events.{Answer, Event, opened, sent, received, Got, datagram, failed}
-use Rattle.hosts.specs.declared.recorded.Given.{Given}
-use Rattle.hosts.specs.declared.recorded.Given.TheVariants.{Datagram, Failure}
-use Rattle.hosts.specs.declared.recorded.Exchange.{Exchange}
-use Rattle.hosts.specs.declared.recorded.Exchange.TheVariants.{OpenRefused, SendRefused, Gives}
-use Rattle.hosts.specs.declared.recorded.Recorded.{Recorded}
+use Rattle.hosts.specs.declared.recorded.Refusal.{Refusal}
+use Rattle.hosts.specs.declared.recorded.Refusal.TheVariants.{Open, Send}
 
 -- one exchange: open is refused, send is refused, or this is given to one receive after the other
 pub data Part : Type 0 where
@@ -83,19 +80,11 @@ Plays s (opened r) t = (r ≡ open_answer (next s.exchanges)) × (t ≡ begun (n
 Plays s (sent q r) t = ((r ≡ send_answer s.refusal) × (t ≡ kept q s)) ⊎ ((r ≡ Err (pos 12)) × (t ≡ s))
 Plays s (received n g) t = (g ≡ came n s.given) × (t ≡ taken n s)
 
-abbrev pub got_of : Given → Got
-got_of (Datagram bytes) = datagram (vec_items bytes)
-got_of (Failure errno) = failed errno
+abbrev pub got_of : Result (Vec ℕ) ℤ → Got
+got_of (Ok bytes) = datagram (vec_items bytes)
+got_of (Err errno) = failed errno
 
-abbrev pub part_of : Exchange → Part
-part_of (OpenRefused errno) = open_refused errno
-part_of (SendRefused errno) = send_refused errno
-part_of (Gives list) = gives (map got_of (vec_items list))
-
-abbrev pub recording_of : Recorded → Recording
-recording_of r = record {
-  exchanges = map part_of (deque_items r.exchanges);
-  given = map got_of (deque_items r.given);
-  refusal = r.refusal;
-  requests = map vec_items (vec_items r.requests);
-}
+abbrev pub part_of : Result (Vec (Result (Vec ℕ) ℤ)) Refusal → Part
+part_of (Ok given) = gives (map got_of (vec_items given))
+part_of (Err (Open errno)) = open_refused errno
+part_of (Err (Send errno)) = send_refused errno

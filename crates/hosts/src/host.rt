@@ -4,6 +4,7 @@ ghost use Rattle.hosts.specs.Meaning.{Filter, Meant};
 ghost use Rattle.hosts.specs.Rules.{Rule};
 
 // The other end of a socket: a kernel, or what stands in for one.
+// An errno is a number: a host may answer any, and the rules leave its choice free, so an enum would lack a case for the others.
 pub trait Host {
     // Whether it claims to keep the rules. A layer claims what the host below does; an end whose rules nobody can prove, nothing.
     ghost lawful: { Type 0 };

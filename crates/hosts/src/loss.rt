@@ -3,10 +3,10 @@ ghost use Rattle.hosts.specs.Losing.{Passed, countdown};
 ghost use Rattle.hosts.specs.Losses.{passed_rule};
 
 use crate::host::Host;
-
-const ENOBUFS: i32 = 105;
+use records::numbers::{ENOBUFS, LONGEST_DATAGRAM};
 
 // A host that loses a datagram of the host below: its receive fails once, `left` receives from now, and 0 means never.
+// A plain number: it runs down by `saturating_sub`, where an Option of a NonZero would ask every caller to make one.
 #[derive(Drop)]
 pub struct Loss<H> {
     pub inner: H,
@@ -42,7 +42,7 @@ impl<H: Host> Host for Loss<H> {
         if left != 1 {
             return self.inner.receive(buffer);
         }
-        let mut lost = [0u8; 4096];
+        let mut lost = [0u8; LONGEST_DATAGRAM];
         let _ = self.inner.receive(&mut lost);
         Err(ENOBUFS)
     }

@@ -1,52 +1,48 @@
-ghost use Rattle.std.specs.Prelude.{◌≡◌, ◌≤◌, [], map, length, if◌then◌else◌, vec_items};
-ghost use Rattle.hosts.specs.Events.{datagram, laid};
-ghost use Rattle.hosts.specs.Recording.{Plays, unplayed, kept, first, longer, part_of, recording_of};
-ghost use Rattle.std.proofs.Common.{rules};
+ghost use Rattle.std.specs.Prelude.{◌≡◌, [], map, if◌then◌else◌, is_ok, vec_items};
+ghost use Rattle.hosts.specs.Recording.{Plays, unplayed, kept, part_of};
 
 use crate::host::Host;
+use records::numbers::{EAGAIN, EINVAL, ENOMEM};
+use std::alloc::AllocError;
 use std::collections::VecDeque;
+use std::marker::Model;
 
-const EAGAIN: i32 = 11;
-
-const ENOMEM: i32 = 12;
-
-const EINVAL: i32 = 22;
-
-// What one receive is given: a datagram, or a failure with its errno.
-#[derive(Drop)]
-pub enum Given {
-    Datagram(Vec<u8>),
-    Failure(i32),
+// Where a part is refused, with this errno.
+#[derive(Clone, Copy, PartialEq, Eq, Debug)]
+pub enum Refusal {
+    Open(i32),
+    Send(i32),
 }
 
-// What happens from one open to the next.
-#[derive(Drop)]
-pub enum Exchange {
-    OpenRefused(i32),
-    SendRefused(i32),
-    Gives(Vec<Given>),
-}
+// What happens from one open to the next: what each receive is given in turn, a datagram or an errno, or where it is refused.
+pub type Part = Result<Vec<Result<Vec<u8>, i32>>, Refusal>;
 
 // An end that plays a recording, whatever is asked, and keeps what was sent. It claims none of the rules.
 #[derive(Drop)]
 pub struct Recorded {
-    exchanges: VecDeque<Exchange>,
-    given: VecDeque<Given>,
+    exchanges: VecDeque<Part>,
+    given: VecDeque<Result<Vec<u8>, i32>>,
     refusal: Option<i32>,
     requests: Vec<Vec<u8>>,
 }
 
-// Lays the bytes over the front of the buffer.
-fn lay(buffer: &mut [u8], bytes: &[u8])
-    requires { length bytes.now ≤ length buffer.old }
-    ensures { buffer.new ≡ laid buffer.old (datagram bytes.now) }
-{
-    buffer[0..bytes.len()].copy_from_slice(bytes);
+impl Model for Recorded {
+    ghost use Rattle.std.specs.Prelude.{map, vec_items};
+    ghost use Rattle.hosts.specs.Recording.{Recording, part_of, got_of};
+
+    ghost Value = { Recording };
+
+    ghost view = { λ r. record {
+      exchanges = map part_of r.exchanges.items;
+      given = map got_of r.given.items;
+      refusal = r.refusal;
+      requests = map vec_items r.requests.items;
+    } };
 }
 
 impl Recorded {
-    pub fn new(exchanges: Vec<Exchange>) -> Recorded
-        ensures { recording_of result ≡ unplayed (map part_of exchanges.items) }
+    pub fn new(exchanges: Vec<Part>) -> Recorded
+        ensures { result ≡ unplayed (map part_of exchanges.items) }
     {
         let heap = *exchanges.allocator();
         Recorded {
@@ -59,30 +55,18 @@ impl Recorded {
 
     // What was sent, in order.
     pub fn requests(&self) -> &[Vec<u8>]
-        ensures { map vec_items result.now ≡ (recording_of self.now).requests }
+        ensures { map vec_items result.now ≡ self.now.requests }
     {
         self.requests.as_slice()
     }
 
-    // Keeps a request; false where there is no memory for it.
-    fn keep(&mut self, request: &[u8]) -> bool
-        ensures { recording_of self.new ≡ (if result then kept request.now (recording_of self.old) else recording_of self.old) }
+    // Keeps a request.
+    fn keep(&mut self, request: &[u8]) -> Result<(), AllocError>
+        ensures { self.new ≡ (if is_ok result then kept request.now self.old else self.old) }
     {
-        match Vec::from_slice(*self.requests.allocator(), request) {
-            Ok(bytes) => self.requests.push(bytes).is_ok(),
-            Err(_) => false,
-        }
-    }
-
-    // Whether a datagram comes next that is longer than `room`.
-    fn too_long(&self, room: usize) -> bool
-        ensures { result ≡ longer room (first (recording_of self.now).given) }
-    {
-        match self.given.front() {
-            Some(Given::Datagram(bytes)) => room < bytes.len(),
-            Some(Given::Failure(_)) => false,
-            None => false,
-        }
+        let bytes = Vec::from_slice(*self.requests.allocator(), request)?;
+        self.requests.push(bytes)?;
+        Ok(())
     }
 }
 
@@ -93,50 +77,35 @@ impl Host for Recorded {
 
     ghost waiting = { λ _. [] };
 
-    ghost did = { λ s e t. Plays (recording_of s) e (recording_of t) };
+    ghost did = { Plays };
 
-    ghost meant = { Prim.search rules };
+    ghost meant = { λ l h. absurd l };
 
-    ghost rules = { Prim.search rules };
+    ghost rules = { λ l h e k s. absurd l };
 
     fn open(&mut self) -> Result<(), i32> {
         self.given.clear();
         self.refusal = None;
         match self.exchanges.pop_front() {
-            Some(Exchange::OpenRefused(errno)) => Err(errno),
-            Some(Exchange::SendRefused(errno)) => {
-                self.refusal = Some(errno);
-                Ok(())
-            }
-            Some(Exchange::Gives(list)) => {
-                self.given = VecDeque::from_vec(list);
-                Ok(())
-            }
-            None => Ok(()),
+            Some(Ok(given)) => self.given = VecDeque::from_vec(given),
+            Some(Err(Refusal::Open(errno))) => return Err(errno),
+            Some(Err(Refusal::Send(errno))) => self.refusal = Some(errno),
+            None => {}
         }
+        Ok(())
     }
 
     fn send(&mut self, request: &[u8]) -> Result<(), i32> {
-        if !self.keep(request) {
-            return Err(ENOMEM);
-        }
-        match self.refusal {
-            Some(errno) => Err(errno),
-            None => Ok(()),
-        }
+        self.keep(request).map_err(|_| ENOMEM)?;
+        self.refusal.map_or(Ok(()), Err)
     }
 
     fn receive(&mut self, buffer: &mut [u8]) -> Result<usize, i32> {
-        if self.too_long(buffer.len()) {
+        if matches!(self.given.front(), Some(Ok(bytes)) if buffer.len() < bytes.len()) {
             return Err(EINVAL);
         }
-        match self.given.pop_front() {
-            Some(Given::Datagram(bytes)) => {
-                lay(buffer, &bytes);
-                Ok(bytes.len())
-            }
-            Some(Given::Failure(errno)) => Err(errno),
-            None => Err(EAGAIN),
-        }
+        let bytes = self.given.pop_front().unwrap_or(Err(EAGAIN))?;
+        buffer[..bytes.len()].copy_from_slice(&bytes);
+        Ok(bytes.len())
     }
 }

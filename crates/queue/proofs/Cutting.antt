@@ -1,8 +1,7 @@
 -- Pieces cut from bytes: more of them, a longer last one, the first taken off. Assumes nothing.
-use Rattle.std.proofs.Common.{◌≡◌, ℕ, zero, suc, ◌+◌, ◌-◌, ◌*◌, ◌<◌, ◌≤◌, leb, List, [], ◌∷◌, ◌++◌, length, get_or, take, drop, refl, ap, arith, take-add}
+use Rattle.std.proofs.Common.{◌≡◌, ℕ, ◌+◌, ◌*◌, ◌<◌, ◌≤◌, leb, List, [], ◌∷◌, ◌++◌, length, take, drop, refl, ap, arith, take-add}
 use Rattle.std.specs.List.{AllByRecursion}
-use Rattle.std.proofs.lemmas.List.{take_at, take-append-drop, take-take, drop-take, take-append-le, drop-append-le, length-drop, length-append, length-take-le, get_or-take, append_assoc}
-use Rattle.std.proofs.ByRecursion.{All-get_or, All-from_get_or}
+use Rattle.std.proofs.lemmas.List.{take_at, take-append-drop, take-take, drop-take, take-append-le, drop-append-le, length-drop, length-append, length-take-le, append_assoc}
 use Rattle.std.proofs.lemmas.Bool.{le-leb, lt-leb, cond-true, cond-false}
 use Rattle.queue.specs.Cuts.{total, Sized, cut, bulk, joined}
 
@@ -52,11 +51,6 @@ cut_grow ns n b m r h =
     let g = cut_more ns ((n + length m) ∷ []) b (p ++ (m ++ r)) (omega arith) in
     cc
 
-pub take_first : (c : ℕ) (xs : List ℕ) → 0 < c → 0 < length xs → take c xs ≡ get_or xs 0 0 ∷ take (c - 1) (drop 1 xs)
-take_first zero xs h l = absurd (omega arith)
-take_first (suc c) [] h l = absurd (omega arith)
-take_first (suc c) (x ∷ xs) h l = ap (λ (n : ℕ). x ∷ take n xs) (let e : c ≡ suc c - 1 = omega arith in e)
-
 pub bulk_cut : (ns b : List ℕ) → total ns ≤ length b → bulk (cut ns b) ≡ total ns
 bulk_cut [] b h = refl
 bulk_cut (n ∷ ns) b h =
@@ -79,17 +73,6 @@ sized_cut [] b h a = tt
 sized_cut (n ∷ ns) b h a =
     let l = length-take-le n b (omega arith) in
     ((omega arith, omega arith), sized_cut ns (drop n b) (simp length-drop (omega arith)) a.1)
-
-pub all_held : (lens : List ℕ) (c : ℕ) → c ≤ length lens → ((k : ℕ) → k < c → Sized (get_or lens k 0)) → AllByRecursion Sized (take c lens)
-all_held lens c l h =
-    let e = length-take-le c lens l in
-    All-from_get_or Sized (take c lens) 0 (λ k q. let p : k < c = omega arith in rw (get_or-take c lens k 0 p) (h k p))
-
-pub each_held : (lens : List ℕ) (c : ℕ) → c ≤ length lens → AllByRecursion Sized (take c lens) → (k : ℕ) → k < c → Sized (get_or lens k 0)
-each_held lens c l a k q =
-    let e = length-take-le c lens l in
-    let z : k < length (take c lens) = omega arith in
-    rw (get_or-take c lens k 0 q) at (All-get_or Sized (take c lens) k 0 z a)
 
 -- a message behind the last piece, and one behind the others
 pub joined_last : (ws : List (List ℕ)) (d m : List ℕ) → length d + length m ≤ 4096 → joined (ws ++ d ∷ []) m ≡ ws ++ (d ++ m) ∷ []

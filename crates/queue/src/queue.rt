@@ -1,19 +1,18 @@
-ghost use Rattle.std.specs.Prelude.{◌≡◌, ℕ, ◌*◌, ◌<◌, ◌≤◌, length, take, slice_index};
+ghost use Rattle.std.specs.Prelude.{◌≡◌, ℕ, ◌<◌, length, slice_index};
+ghost use Rattle.capped.specs.Values.{values};
 ghost use Rattle.queue.specs.Cuts.{total, Sized};
 
+use capped::list::Capped;
+
 mod calls;
-mod moves;
 
 // Datagrams that wait, one after the other from the front of bytes; lens has their lengths. Each has 16 bytes or
 // more, so that there are never more than 1,024.
+// No `impl Model`: a Copy type has none that forgets what stands where no value does.
 #[derive(Clone, Copy)]
 pub struct Queue {
-    bytes: [u8; 16384],
-    lens: [u16; 1024],
-    count: usize,
-    used: usize,
-    ghost few: { (16 * count ≤ used) × (used ≤ 16384) },
-    ghost arrays: { (length bytes ≡ 16384) × (length lens ≡ 1024) },
-    ghost sum: { used ≡ total (take count lens) },
-    ghost each: { (k : ℕ) → k < count → Sized (slice_index lens k) },
+    bytes: Capped<u8, 16384>,
+    lens: Capped<u16, 1024>,
+    ghost sum: { length (values bytes) ≡ total (values lens) },
+    ghost each: { (k : ℕ) → k < length (values lens) → Sized (slice_index (values lens) k) },
 }

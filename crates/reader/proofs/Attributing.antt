@@ -1,15 +1,12 @@
 -- One attribute at the front of a row: laid out, and read. Assumes nothing.
 use Rattle.std.proofs.Common.{◌≡◌, ℕ, ◌+◌, ◌-◌, ◌<◌, ◌≤◌, List, [], length, take, drop, sym, refl, ap, ◌∙◌, arith}
-use Rattle.std.proofs.lemmas.List.{length-drop, length-take-le, nil_from_length, take_rest}
+use Rattle.std.proofs.lemmas.List.{length-drop, length-take-le, nil_from_length}
 use Rattle.std.proofs.lemmas.Bool.Decides.{nat_tests}
-use Rattle.records.specs.declared.nlattr.Nlattr.{Nlattr}
-use Rattle.records.specs.Fields.{nlattr_of}
 use Rattle.reader.specs.declared.fault.AttributeFault.{AttributeFault}
-use Rattle.reader.specs.declared.fault.AttributeFault.TheVariants.{Cut, Length, Past}
 use Rattle.records.specs.Words.{le2}
 use Rattle.records.specs.Align.{padded}
 use Rattle.records.specs.WordsLemmas.{le2_take}
-use Rattle.reader.specs.Walks.{Step, end, fault, item, on_step, Reads, Stops}
+use Rattle.reader.specs.Walks.{Step, end, item, on_step, Reads, Stops}
 use Rattle.records.specs.Layouts.{Attribute, AttributeAt}
 use Rattle.reader.specs.Rows.{attribute_step, attributes}
 use Rattle.reader.proofs.Walking.{reads, stops, reading_step}
@@ -23,42 +20,6 @@ same_item e f g = cc
 at_front : (b : List ℕ) → 4 ≤ length b → 4 ≤ le2 b 0 → padded (le2 b 0) ≤ length b →
     attribute_step b ≡ item (record { kind = le2 b 2; payload = take (le2 b 0 - 4) (drop 4 b) }) (drop (padded (le2 b 0)) b)
 at_front b g h i = grind (arith, nat_tests)
-
--- nothing is left
-pub none_left : (b : List ℕ) → length b ≡ 0 → attribute_step b ≡ end
-none_left b e = grind (arith, nat_tests)
-
--- too few bytes for a header
-pub cut_front : (b : List ℕ) → (length b ≡ 0 → ⊥) → length b < 4 → attribute_step b ≡ fault (Cut (length b) 4)
-cut_front b n h = grind (arith, nat_tests)
-
--- a header h, whose length is l
-module _ (b : List ℕ) (h : Nlattr) (l : ℕ) (body : List ℕ) (four : 4 ≤ length b) (is : h ≡ nlattr_of b) (behind : body ≡ drop 4 b) (len : l ≡ h.len) where
-  says : l ≡ le2 b 0
-  says = len ∙ ap (λ (x : Nlattr). x.len) is
-
-  pub length_front : l < 4 → attribute_step b ≡ fault (Length l)
-  length_front q = let e : attribute_step b ≡ fault (Length (le2 b 0)) = grind (arith, nat_tests, says) in e ∙ ap (λ (z : ℕ). fault (Length z)) (sym says)
-
-  -- n is its length with the padding
-  pub past_front : (n : ℕ) → n ≡ padded l → 4 ≤ l → length b < n → attribute_step b ≡ fault (Past (length body) (n - 4))
-  past_front n e q w =
-      let z : n ≡ padded (le2 b 0) = e ∙ ap padded says in
-      let s : attribute_step b ≡ fault (Past (length b - 4) (padded (le2 b 0) - 4)) = grind (arith, nat_tests, says, z) in
-      s
-      ∙ ap (λ (k : ℕ). fault (Past (length b - 4) (k - 4))) (sym z)
-      ∙ ap (λ (k : ℕ). fault (Past k (n - 4))) (sym (ap length behind ∙ length-drop 4 b))
-
-  -- with the parts as `&row[a..b]` has them
-  pub attr_front : (n : ℕ) → n ≡ padded l → 4 ≤ l → n ≤ length b →
-      attribute_step b ≡ item (record { kind = h.kind; payload = take (l - 4 - 0) body }) (take (length b - n) (drop n b))
-  attr_front n e q w =
-      let z : n ≡ padded (le2 b 0) = e ∙ ap padded says in
-      let u = take_rest b n in
-      let k : l - 4 - 0 ≡ le2 b 0 - 4 = omega (arith, says) in
-      at_front b four (omega (arith, says)) (omega arith)
-      ∙ same_item (sym (ap (λ (x : Nlattr). x.kind) is)) (ap (λ (j : ℕ). take j (drop 4 b)) (sym k) ∙ ap (take (l - 4 - 0)) (sym behind))
-      (ap (λ (j : ℕ). drop j b) (sym z) ∙ sym u)
 
 record Front (b : List ℕ) (a : Attribute) (r : List ℕ) : Type 0 where
   four : 4 ≤ length b

@@ -5,7 +5,5 @@ pub mod Messaging
 pub mod Visiting
 pub mod Handing
 pub mod Walked
-pub mod Pushing
-pub mod Searching
 pub mod Uncutting
 pub mod Refusing

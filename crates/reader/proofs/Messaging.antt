@@ -1,15 +1,12 @@
 -- One message at the front of a datagram: laid out, and read. Assumes nothing.
-use Rattle.std.proofs.Common.{◌≡◌, ℕ, ◌+◌, ◌-◌, ◌<◌, ◌≤◌, min, ◌⊎◌, List, [], length, take, drop, sym, refl, ap, ◌∙◌, inl, inr, ⊎_elim, arith}
-use Rattle.std.proofs.lemmas.List.{length-drop, length-take, length-take-le, nil_from_length, take_rest, drop_all}
+use Rattle.std.proofs.Common.{◌≡◌, ℕ, ◌+◌, ◌-◌, ◌<◌, ◌≤◌, ◌⊎◌, List, [], length, take, drop, sym, refl, ap, ◌∙◌, inl, inr, ⊎_elim, arith}
+use Rattle.std.proofs.lemmas.List.{length-drop, length-take, length-take-le, nil_from_length, drop_all}
 use Rattle.std.proofs.lemmas.Bool.Decides.{nat_tests}
 use Rattle.reader.specs.declared.fault.MessageFault.{MessageFault}
-use Rattle.reader.specs.declared.fault.MessageFault.TheVariants.{Cut, Length}
-use Rattle.records.specs.declared.nlmsghdr.Nlmsghdr.{Nlmsghdr}
-use Rattle.records.specs.Fields.{nlmsghdr_of}
 use Rattle.records.specs.Words.{le2, le4}
 use Rattle.records.specs.Align.{padded, fill}
 use Rattle.records.specs.WordsLemmas.{le2_take, le4_take}
-use Rattle.reader.specs.Walks.{Step, end, fault, item, on_step, Reads, Stops}
+use Rattle.reader.specs.Walks.{Step, end, item, on_step, Reads, Stops}
 use Rattle.records.specs.Layouts.{Message, MessageAt}
 use Rattle.reader.specs.Datagrams.{message_step, messages}
 use Rattle.reader.proofs.Walking.{reads, stops, reading_step}
@@ -28,46 +25,6 @@ at_front b h i = grind (arith, nat_tests)
 
 within : (k n : ℕ) → (k ≤ n) ⊎ (n < k)
 within k n = grind arith
-
-drop_min : (b : List ℕ) (k m : ℕ) → m ≡ min k (length b) → drop m b ≡ drop k b
-drop_min b k m e =
-    ⊎_elim
-    (λ (h : k ≤ length b). let q : m ≡ k = omega arith in ap (λ (x : ℕ). drop x b) q)
-    (λ (h : length b < k). drop_all m b (omega arith) ∙ sym (drop_all k b (omega arith)))
-    (within k (length b))
-
--- nothing is left
-pub none_left : (b : List ℕ) → length b ≡ 0 → message_step b ≡ end
-none_left b e = grind (arith, nat_tests)
-
--- too few bytes for a header
-pub cut_front : (b : List ℕ) → (length b ≡ 0 → ⊥) → length b < 16 → message_step b ≡ fault (Cut (length b))
-cut_front b n h = grind (arith, nat_tests)
-
--- a length that cannot be
-pub length_front : (b : List ℕ) (h : Nlmsghdr) → 16 ≤ length b → h ≡ nlmsghdr_of b → (h.len < 16) ⊎ ((16 ≤ h.len) × (length b < h.len)) →
-    message_step b ≡ fault (Length h.len (length b))
-length_front b h g q e =
-    let s : h.len ≡ le4 b 0 = ap (λ (x : Nlmsghdr). x.len) q in
-    ⊎_elim
-    (λ (l : h.len < 16). let t : message_step b ≡ fault (Length (le4 b 0) (length b)) = grind (arith, nat_tests) in t ∙ ap (λ (z : ℕ). fault (Length z (length b))) (sym s))
-    (λ (l : (16 ≤ h.len) × (length b < h.len)).
-    let t : message_step b ≡ fault (Length (le4 b 0) (length b)) = grind (arith, nat_tests) in t ∙ ap (λ (z : ℕ). fault (Length z (length b))) (sym s))
-    e
-
--- the same, with the header as the code has it, and the parts as `&all[a..b]` has them
-pub message_front : (b : List ℕ) (h : Nlmsghdr) (n m : ℕ) → h ≡ nlmsghdr_of b → n ≡ padded h.len → m ≡ min n (length b) → 16 ≤ h.len → h.len ≤ length b →
-    message_step b
-    ≡ item (record { kind = h.kind; flags = h.flags; seq = h.seq; port = h.pid; payload = take (h.len - 16) (drop 16 b) }) (take (length b - m) (drop m b))
-message_front b h n m q s w l i =
-    let e : h.len ≡ le4 b 0 = ap (λ (x : Nlmsghdr). x.len) q in
-    let u = take_rest b m in
-    let v = drop_min b n m w in
-    let z : n ≡ padded (le4 b 0) = s ∙ ap padded e in
-    let y : drop n b ≡ drop (padded (le4 b 0)) b = ap (λ (k : ℕ). drop k b) z in
-    at_front b (omega arith) (omega arith)
-    ∙ same_item (sym (ap (λ (x : Nlmsghdr). x.kind) q)) (sym (ap (λ (x : Nlmsghdr). x.flags) q)) (sym (ap (λ (x : Nlmsghdr). x.seq) q))
-    (sym (ap (λ (x : Nlmsghdr). x.pid) q)) (ap (λ (k : ℕ). take (k - 16) (drop 16 b)) (sym e)) (sym y ∙ sym v ∙ sym u)
 
 record Front (b : List ℕ) (m : Message) (r : List ℕ) : Type 0 where
   small : 16 ≤ le4 b 0

@@ -1,22 +1,18 @@
 -- The walk over the messages of a datagram. Assumes nothing.
 use Rattle.std.proofs.Common.{◌≡◌, ℕ, Bool, true, List, Some, Ok, Err, Result, sym, refl, ap, ◌∙◌}
-use Rattle.reader.specs.Walks.{broken, Step, end, fault, item, on_step, seen}
+use Rattle.reader.specs.Walks.{broken, Step, end, fault, item, on_step, Next}
 use Rattle.records.specs.Layouts.{Message}
 use Rattle.reader.specs.Datagrams.{message_step, messages, message_of}
 use Rattle.reader.specs.declared.fault.MessageFault.{MessageFault}
 use Rattle.reader.specs.declared.attribute.NetlinkMessage.{NetlinkMessage}
+use Rattle.reader.proofs.Walking.{came, failed}
 use Rattle.reader.proofs.Messaging.{messages_step}
 use Rattle.reader.specs.declared.fault.TurnFault.{TurnFault}
 use Rattle.reader.specs.declared.stage.Stage.{Stage}
 use Rattle.reader.specs.declared.stage.Stage.TheVariants.{Going, Ended, Faulted}
-use Rattle.reader.specs.Replies.{State, at, step, onwards, multi, at_end, closed}
-
--- what `next` said, at a message and at a fault
-pub seen_ok : (s : Step Message MessageFault) (x : Result NetlinkMessage MessageFault) (m : NetlinkMessage) (rest : List ℕ) → s ≡ seen message_of (Some x) rest → x ≡ Ok m → s ≡ item (message_of m) rest
-seen_ok s x m rest p q = p ∙ ap (λ y. seen message_of (Some y) rest) q
-
-pub seen_err : (s : Step Message MessageFault) (x : Result NetlinkMessage MessageFault) (e : MessageFault) (rest : List ℕ) → s ≡ seen message_of (Some x) rest → x ≡ Err e → s ≡ fault e
-seen_err s x e rest p q = p ∙ ap (λ y. seen message_of (Some y) rest) q
+use Rattle.reader.specs.declared.class.Class.{Class}
+use Rattle.reader.specs.Classes.{class_of}
+use Rattle.reader.specs.Replies.{State, at, heeded, onwards, multi, at_end, closed}
 
 any_last : (x : Stage) (last : Bool) (f : MessageFault) → at_end x last (broken f) ≡ at_end x true (broken f)
 any_last Going last f = refl
@@ -31,13 +27,22 @@ module _ {T : Type 0} (fed : T → List ℕ → Result T TurnFault) (all : State
   here : (s : State T) (last : Bool) (rest : List ℕ) (x : Step Message MessageFault) → Walks s last rest → message_step rest ≡ x → all ≡ onwards fed s last (on_step messages x)
   here s last rest x i e = i ∙ ap (onwards fed s last) (messages_step rest ∙ ap (on_step messages) e)
 
-  pub walk_more : (s s' : State T) (last last' : Bool) (rest after : List ℕ) (m : Message) → Walks s last rest →
-      message_step rest ≡ item m after → s' ≡ step fed s m → last' ≡ multi m → Walks s' last' after
-  walk_more s s' last last' rest after m i e p q =
-      here s last rest (item m after) i e ∙ ap (λ x. onwards fed x (multi m) (messages after)) (sym p) ∙ ap (λ x. onwards fed s' x (messages after)) (sym q)
+  -- the next message is heeded and the walk goes on, or it is at fault, or there is none
+  module _ (s : State T) (last : Bool) {rest after : List ℕ} {x : Result NetlinkMessage MessageFault} (i : Walks s last rest) (n : Next message_of message_step rest (Some x) after) where
+    pub walk_more : (s' : State T) (last' : Bool) {m : NetlinkMessage} {k : Class} → x ≡ Ok m → k ≡ class_of m.header.kind m.data.now →
+        s' ≡ heeded fed s.stage s.table k m.data.now → last' ≡ multi (message_of m) → Walks s' last' after
+    walk_more s' last' {m} e c p q =
+        here s last rest (item (message_of m) after) i (came n m e)
+        ∙ ap (λ (y : State T). onwards fed y (multi (message_of m)) (messages after)) (sym (p ∙ ap (λ (y : Class). heeded fed s.stage s.table y m.data.now) c))
+        ∙ ap (λ (y : Bool). onwards fed s' y (messages after)) (sym q)
+
+    -- with what the exit of a `?` says
+    pub walk_fault : (r : Result Bool MessageFault) {f g : MessageFault} → x ≡ Err f → r ≡ Err g → g ≡ f → all ≡ closed s r
+    walk_fault r {f} {g} e p q =
+        here s last rest (fault f) i (failed n f e)
+        ∙ ap (λ (y : Stage). at y s.table) (any_last s.stage last f)
+        ∙ ap (λ (y : MessageFault). closed s (Err y)) (sym q)
+        ∙ ap (closed s) (sym p)
 
   pub walk_end : (s : State T) (last : Bool) (rest : List ℕ) → Walks s last rest → message_step rest ≡ end → all ≡ closed s (Ok last)
   walk_end s last rest i e = here s last rest end i e
-
-  pub walk_fault : (s : State T) (last : Bool) (rest : List ℕ) (f : MessageFault) → Walks s last rest → message_step rest ≡ fault f → all ≡ closed s (Err f)
-  walk_fault s last rest f i e = here s last rest (fault f) i e ∙ ap (λ x. at x s.table) (any_last s.stage last f)

@@ -1,7 +1,29 @@
 -- Reading piece by piece, over any step that shortens. Assumes nothing.
-use Rattle.std.proofs.Common.{◌≡◌, ℕ, zero, suc, ◌<◌, ◌≤◌, List, [], ◌∷◌, length, sym, refl, ap, ◌∙◌, subst, arith}
+use Rattle.std.proofs.Common.{◌≡◌, ℕ, zero, suc, ◌<◌, ◌≤◌, List, [], ◌∷◌, length, Some, None, Ok, Err, Option, Result, sym, refl, ap, ◌∙◌, subst, arith}
+use Rattle.std.specs.Iterator.{MakesProgress, at_most}
 use Rattle.records.specs.Layouts.{Chain, none, more}
-use Rattle.reader.specs.Walks.{Upto, here, on, Step, end, fault, item, Stop, clean, broken, Reading, whole, after, on_step, read_by, reading, Reads, Stops}
+use Rattle.reader.specs.Walks.{Upto, here, on, Step, end, fault, item, Stop, clean, broken, Reading, whole, after, on_step, read_by, reading, Reads, Stops, seen, beyond, Next}
+
+-- what `next` said, at a piece and at a fault
+module _ {R X F : Type 0} {show : R → X} {front : List ℕ → Step X F} {b c : List ℕ} {x : Result R F} (n : Next show front b (Some x) c) where
+  pub came : (r : R) → x ≡ Ok r → front b ≡ item (show r) c
+  came r e = n.step ∙ ap (λ (y : Result R F). seen show (Some y) c) e
+
+  pub failed : (f : F) → x ≡ Err f → front b ≡ fault f
+  failed f e = n.step ∙ ap (λ (y : Result R F). seen show (Some y) c) e
+
+-- a fault is handed out last
+fault_last : {X F : Type 0} (front : List ℕ → Step X F) → front [] ≡ end → (b c : List ℕ) (e : F) → front b ≡ fault e → c ≡ beyond b (front b) → length c < length b
+fault_last {X} {F} front empty [] c e p q = let n : ◌≡◌ {A = Step X F} end (fault e) = sym empty ∙ p in let z : ◌≡◌ {A = ℕ} 0 1 = cc in absurd (omega arith)
+fault_last front empty (x ∷ xs) c e p q = let k : c ≡ [] = q ∙ ap (beyond (x ∷ xs)) p in omega (arith, ap length k)
+
+-- `next` comes nearer to the end with each piece, and with a fault
+module _ {S R X F : Type 0} (left : S → List ℕ) {show : R → X} {front : List ℕ → Step X F} (empty : front [] ≡ end)
+    (shorter : (b : List ℕ) (x : X) (r : List ℕ) → front b ≡ item x r → length r < length b) where
+  pub nearer : (s t : S) (r : Option (Result R F)) → Next show front (left s) r (left t) → MakesProgress (λ _. Unit {0}) (λ (x : S). at_most (length (left x))) s r t
+  nearer s t None n = record { on = λ _. tt; keeps = tt; rests = λ _. tt }
+  nearer s t (Some (Ok x)) n = record { on = λ _. (tt, tt, shorter (left s) (show x) (left t) n.step); keeps = tt; rests = λ _. tt }
+  nearer s t (Some (Err e)) n = record { on = λ _. (tt, tt, fault_last front empty (left s) (left t) e n.step n.left); keeps = tt; rests = λ _. tt }
 
 module _ {X F : Type 0} where
   same_on : (f g : List ℕ → Reading X F) (s : Step X F) → ((x : X) (r : List ℕ) → s ≡ item x r → f r ≡ g r) → on_step f s ≡ on_step g s

@@ -9,3 +9,4 @@ pub mod Matches
 pub mod Cuts
 pub mod Numbers
 pub mod Refused
+pub mod Turns

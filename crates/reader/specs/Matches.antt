@@ -1,5 +1,6 @@
 -- The matches of a listing.
-use Rattle.std.specs.Prelude.{ℕ, zero, suc, ◌/◌, Bool, cond, not, ◌&&◌, List, [], ◌∷◌, ◌++◌, length, take, drop, Some, None, Ok, Err, Option, Result, ◌==◌, nat_lt}
+use Rattle.std.specs.Prelude.{ℕ, ◌/◌, Bool, cond, not, ◌&&◌, List, [], ◌∷◌, ◌++◌, length, drop, Some, None, Ok, Err, Option, Result, ◌==◌, nat_lt}
+use Rattle.capped.specs.Values.{values}
 use Rattle.records.specs.Fields.{tcmsg_of}
 use Rattle.records.specs.declared.tcmsg.Tcmsg.{Tcmsg}
 use Rattle.reader.specs.Visits.{then}
@@ -16,12 +17,7 @@ use Rattle.reader.specs.declared.echo.Echo.TheVariants.{Nothing, One, Several}
 
 -- the matches that a table holds
 abbrev pub matches_of : MatchTable → List Match
-matches_of t = take t.len t.rows
-
-abbrev pub nth : List Match → ℕ → Option Match
-nth [] n = None
-nth (m ∷ more) zero = Some m
-nth (m ∷ more) (suc n) = nth more n
+matches_of t = values t.rows
 
 -- one more behind the others; a 65th is 27
 abbrev pub pushed : List Match → Match → Result (List Match) TurnFault

@@ -1,5 +1,5 @@
 -- Texts and names in attributes.
-use Rattle.std.specs.Prelude.{ℕ, ◌+◌, Bool, false, cond, not, ◌&&◌, ◌||◌, List, [], ◌∷◌, length, take, Some, None, Ok, Err, Option, Result, ◌==◌}
+use Rattle.std.specs.Prelude.{ℕ, ◌+◌, Bool, false, cond, not, ◌&&◌, ◌||◌, List, [], ◌∷◌, length, take, Ok, Err, Result, ◌==◌}
 use Rattle.std.specs.Borrow.{Bor}
 use Rattle.std.specs.List.{prefix_len}
 use Rattle.std.specs.Str.{bytes_eq}
@@ -70,8 +70,3 @@ texts_of b = texts_in (attributes b).found
 abbrev pub shown : Result (Bor (List ℕ)) AttributeFault → Result (List ℕ) AttributeFault
 shown (Ok r) = Ok r.now
 shown (Err e) = Err e
-
--- the list that an answer is the head of, where `rest` is left
-abbrev pub headed : Option (Bor (List ℕ)) → List (List ℕ) → List (List ℕ)
-headed None rest = []
-headed (Some t) rest = t.now ∷ rest

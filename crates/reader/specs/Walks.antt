@@ -56,7 +56,7 @@ module _ {X F : Type 0} (step : List ℕ → Step X F) where
       (((t : List ℕ) × Upto One b xs t × (step t ≡ fault f)) → reading b ≡ record { found = xs; stop = broken f })
       × (reading b ≡ record { found = xs; stop = broken f } → (t : List ℕ) × Upto One b xs t × (step t ≡ fault f))
 
--- the step that an answer of a reader's `next` says, where it leaves the bytes `rest`
+-- the step that an answer of a reader says, where it leaves the bytes `rest`
 abbrev pub seen : {R X F : Type 0} → (R → X) → Option (Result R F) → List ℕ → Step X F
 seen show None rest = end
 seen show (Some (Err e)) rest = fault e
@@ -67,3 +67,14 @@ abbrev pub remaining : {X F : Type 0} → List ℕ → Step X F → List ℕ
 remaining b end = b
 remaining b (fault e) = b
 remaining b (item x r) = r
+
+-- what is left where a fault is the last that is handed out
+abbrev pub beyond : {X F : Type 0} → List ℕ → Step X F → List ℕ
+beyond b end = b
+beyond b (fault e) = []
+beyond b (item x r) = r
+
+-- `next` at the bytes b gives r and leaves the bytes c
+pub record Next {R X F : Type 0} (show : R → X) (front : List ℕ → Step X F) (b : List ℕ) (r : Option (Result R F)) (c : List ℕ) : Type 0 where
+  pub step : front b ≡ seen show r c
+  pub left : c ≡ beyond b (front b)

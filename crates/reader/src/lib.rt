@@ -4,6 +4,7 @@ pub mod attribute;
 pub mod class;
 pub mod classify;
 pub mod echo;
+mod errno;
 pub mod fault;
 pub mod matches;
 pub mod messages;

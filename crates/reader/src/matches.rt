@@ -1,4 +1,5 @@
-ghost use Rattle.std.specs.Prelude.{◌≡◌, ◌≤◌, length};
+use capped::list::Capped;
+use std::fmt;
 
 mod table;
 
@@ -9,10 +10,18 @@ pub struct Match {
     pub handle: u32,
 }
 
+// The handle in its two halves; the type that prints handles stands in requests, and not below.
+impl fmt::Display for Match {
+    fn fmt<W: fmt::Write>(&self, f: &mut fmt::Formatter<W>) -> fmt::Result {
+        let Match { priority, handle } = *self;
+        let (major, minor) = (handle >> 16, handle & 0xffff);
+        write!(f, "priority {priority}, handle {major:x}:{minor:x}")
+    }
+}
+
 // Up to 64 matches, in the order in which they came.
+// No `impl Model`: a Copy type has none that forgets what stands where no value does.
 #[derive(Clone, Copy)]
 pub struct MatchTable {
-    rows: [Match; 64],
-    len: usize,
-    ghost ok: { (len ≤ 64) × (length rows ≡ 64) },
+    rows: Capped<Match, 64>,
 }

@@ -1,4 +1,4 @@
-ghost use Rattle.std.specs.Prelude.{◌≡◌, drop};
+ghost use Rattle.std.specs.Prelude.{◌≡◌};
 ghost use Rattle.reader.specs.Datagrams.{messages as messages_of, message_of};
 ghost use Rattle.reader.specs.Cuts.{Uncut};
 ghost use Rattle.reader.specs.Replies.{at, took, read_of};
@@ -7,33 +7,24 @@ ghost use Rattle.reader.specs.Refused.{refused_row, row_behind};
 
 use crate::attribute::NetlinkMessage;
 use crate::class::Class;
-use crate::classify::class_of;
+use crate::classify::{behind, class_of};
 use crate::fault::TurnFault;
 use crate::messages::Messages;
 use crate::sink::Sink;
 use crate::texts::Texts;
 use crate::turn::Turn;
-
-// What stands behind the first n bytes, or nothing.
-fn behind(payload: &[u8], n: usize) -> &[u8]
-    ensures { result.now ≡ drop n payload.now }
-{
-    if n < payload.len() {
-        &payload[n..]
-    } else {
-        &[]
-    }
-}
+use records::numbers::NLMSG_DONE;
 
 // The attributes of a message that refuses.
 fn row_behind<'a>(message: NetlinkMessage<'a>) -> &'a [u8]
     ensures { result.now ≡ row_behind (message_of message.entry) }
 {
-    if message.header.kind == 3 {
-        behind(message.data, 4)
+    let before = if message.header.kind == NLMSG_DONE {
+        4
     } else {
-        behind(message.data, 20)
-    }
+        20
+    };
+    behind(message.data, before)
 }
 
 // The texts of the refusal in a reply, as parts of the buffer that its last datagram was received into. On any other buffer this is
@@ -41,10 +32,9 @@ fn row_behind<'a>(message: NetlinkMessage<'a>) -> &'a [u8]
 pub fn texts_of(buffer: &[u8]) -> Texts<'_>
     ensures { result.row.rest.now ≡ refused_row (messages_of buffer.now).found }
 {
-    let mut messages = Messages::new(buffer);
-    while let Some(next) = messages.next() {
+    for next in Messages::new(buffer) {
         let Ok(message) = next else {
-            return Texts::new(&[]);
+            break;
         };
         if let Class::Refused(_) = class_of(message.header.kind, message.data) {
             return Texts::new(row_behind(message));
@@ -68,8 +58,6 @@ pub fn read_alone<S: Sink>(
 }
 
 // How a listing is cut into datagrams makes no difference, to whatever table it is read.
-pub fn cut_at_will<S: Sink>(_sink: &S) -> bool
+pub fn cut_at_will<S: Sink>(_sink: &S)
     ensures { Uncut S.Sink.fed }
-{
-    true
-}
+{}

@@ -1,6 +1,8 @@
-ghost use Rattle.std.specs.Prelude.{◌≡◌};
+ghost use Rattle.std.specs.Prelude.{◌≡◌, length};
+ghost use Rattle.std.specs.Iterator.{at_most};
+ghost use Rattle.std.specs.Result.{result_transpose};
 ghost use Rattle.records.specs.Layouts.{AttributeAt};
-ghost use Rattle.reader.specs.Walks.{seen, remaining, Reads, Stops};
+ghost use Rattle.reader.specs.Walks.{seen, remaining as left_by, Next, Reads, Stops};
 ghost use Rattle.reader.specs.Rows.{attribute_step, attribute_of};
 
 use crate::attribute::NlAttr;
@@ -26,35 +28,45 @@ impl<'a> NlAttrs<'a> {
     }
 
     // Takes one attribute off the front. At the end and at a fault nothing is taken.
-    pub fn next(&mut self) -> Option<Result<NlAttr<'a>, AttributeFault>>
-        ensures step { attribute_step self.old.rest.now ≡ seen attribute_of result self.new.rest.now }
-        ensures left { self.new.rest.now ≡ remaining self.old.rest.now (attribute_step self.old.rest.now) }
+    pub fn step(&mut self) -> Result<Option<NlAttr<'a>>, AttributeFault>
+        ensures step { attribute_step self.old.rest.now ≡ seen attribute_of (result_transpose result) self.new.rest.now }
+        ensures left { self.new.rest.now ≡ left_by self.old.rest.now (attribute_step self.old.rest.now) }
     {
         let row = self.rest;
         if row.is_empty() {
-            return None;
+            return Ok(None);
         }
-        let Some((header, body)) = Nlattr::decode(row) else {
-            return Some(Err(AttributeFault::Cut {
-                size: row.len(),
-                expected: 4,
-            }));
-        };
+        let (header, body) = Nlattr::decode(row).ok_or(AttributeFault::Cut {
+            size: row.len(),
+            expected: 4,
+        })?;
         let len = usize::from(header.len);
         if len < 4 {
-            return Some(Err(AttributeFault::Length(len)));
+            return Err(AttributeFault::Length(len));
         }
         let padded = align(u32::from(header.len));
-        if row.len() < padded {
-            return Some(Err(AttributeFault::Past {
-                size: body.len(),
-                expected: padded - 4,
-            }));
+        self.rest = row.get(padded..).ok_or(AttributeFault::Past {
+            size: body.len(),
+            expected: padded - 4,
+        })?;
+        let data = &body[..len - 4];
+        Ok(Some(NlAttr { header, data }))
+    }
+}
+
+impl<'a> Iterator for NlAttrs<'a> {
+    type Item = Result<NlAttr<'a>, AttributeFault>;
+
+    ghost next_gives = { λ s r t. Next attribute_of attribute_step s.rest.now r t.rest.now };
+
+    ghost remaining = { λ s. at_most (length s.rest.now) };
+
+    // The next attribute. A fault is the last that is handed out.
+    fn next(&mut self) -> Option<Result<NlAttr<'a>, AttributeFault>> {
+        let next = self.step();
+        if next.is_err() {
+            self.rest = &[];
         }
-        self.rest = &row[padded..];
-        Some(Ok(NlAttr {
-            header,
-            data: &body[0..len - 4],
-        }))
+        next.transpose()
     }
 }

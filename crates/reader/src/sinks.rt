@@ -3,7 +3,7 @@ ghost use Rattle.reader.specs.Names.{matching};
 ghost use Rattle.reader.specs.Matches.{raised, head_of, match_of, match_if, hit_of, Search, matches_of, searched, echoed, echo as echo_of, passed_over};
 ghost use Rattle.reader.specs.declared.echo.Echo.{Echo as Echoed};
 
-use crate::classify::past;
+use crate::classify::behind;
 use crate::echo::Echo;
 use crate::fault::{MessageFault, TurnFault};
 use crate::matches::{Match, MatchTable};
@@ -16,10 +16,9 @@ use records::tcmsg::Tcmsg;
 fn head_of(payload: &[u8]) -> Result<Tcmsg, TurnFault>
     ensures { result ≡ head_of payload.now }
 {
-    let Some((head, _)) = Tcmsg::decode(payload) else {
-        return Err(TurnFault::FilterShort(payload.len()));
-    };
-    Ok(head)
+    Tcmsg::decode(payload)
+        .map(|(head, _)| head)
+        .ok_or(TurnFault::FilterShort(payload.len()))
 }
 
 // The filter that a family header names: the priority is the upper half of info.
@@ -27,7 +26,7 @@ fn match_of(head: &Tcmsg) -> Match
     ensures { result ≡ match_of head.now }
 {
     Match {
-        priority: (head.info / 65536) as u16,
+        priority: (head.info >> 16) as u16,
         handle: head.handle,
     }
 }
@@ -36,11 +35,7 @@ fn match_of(head: &Tcmsg) -> Match
 fn match_if(head: &Tcmsg, named: bool) -> Option<Match>
     ensures { result ≡ match_if head.now named }
 {
-    if named && head.handle != 0 {
-        Some(match_of(head))
-    } else {
-        None
-    }
+    (named && head.handle != 0).then(|| match_of(head))
 }
 
 // Whether the row of a filter message has this name, with a fault of the row carried up whole.
@@ -55,7 +50,7 @@ fn hit_of(payload: &[u8], name: &[u8]) -> Result<Option<Match>, TurnFault>
     ensures { result ≡ hit_of name.now payload.now }
 {
     let head = head_of(payload)?;
-    let named = named_in(past(payload, 20), name)?;
+    let named = named_in(behind(payload, 20), name)?;
     Ok(match_if(&head, named))
 }
 
@@ -74,6 +69,7 @@ impl<'a> Sink for Finder<'a> {
     ghost fed = { searched };
 
     fn filter(&mut self, payload: &[u8]) -> Result<(), TurnFault> {
+        // no `map_or`: a closure that pushes is no plainer
         match hit_of(payload, self.name)? {
             Some(found) => self.table.push(found),
             None => Ok(()),

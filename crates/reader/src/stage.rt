@@ -1,6 +1,6 @@
 use crate::fault::TurnFault;
 
-// How far a reply has come.
+// How far a reply has come. Named cases, since an `Option<Result<(), TurnFault>>` does not say which is which.
 #[derive(Clone, Copy, PartialEq, Eq, Debug)]
 pub enum Stage {
     // more is to come

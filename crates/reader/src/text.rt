@@ -1,5 +1,4 @@
 ghost use Rattle.std.specs.Prelude.{◌≡◌};
-ghost use Rattle.std.specs.Str.{bytes_eq};
 ghost use Rattle.reader.specs.Names.{zero_at, text_of, shown};
 
 use crate::fault::AttributeFault;
@@ -8,12 +7,10 @@ use crate::fault::AttributeFault;
 fn zero_at(payload: &[u8]) -> usize
     ensures { result ≡ zero_at payload.now }
 {
-    for (i, b) in payload.iter().enumerate() {
-        if *b == 0 {
-            return i;
-        }
-    }
-    payload.len()
+    payload
+        .iter()
+        .position(|b| *b == 0)
+        .unwrap_or(payload.len())
 }
 
 // A text without its final zero, which is its only one.
@@ -22,15 +19,8 @@ pub fn text_of(payload: &[u8]) -> Result<&[u8], AttributeFault>
 {
     let n = zero_at(payload);
     if n + 1 == payload.len() {
-        Ok(&payload[0..n])
+        Ok(&payload[..n])
     } else {
         Err(AttributeFault::Text)
     }
-}
-
-// Whether two texts are the same, byte by byte.
-pub(crate) fn same(a: &[u8], b: &[u8]) -> bool
-    ensures { result ≡ bytes_eq a.now b.now }
-{
-    a == b
 }

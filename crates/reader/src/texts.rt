@@ -1,12 +1,13 @@
 ghost use Rattle.std.specs.Prelude.{◌≡◌};
+ghost use Rattle.std.specs.Iterator.{YieldsFirstRef, item_count};
 ghost use Rattle.reader.specs.Rows.{attribute_of};
-ghost use Rattle.reader.specs.Names.{text_in, texts_of, shown, headed};
+ghost use Rattle.reader.specs.Names.{text_in, texts_of, shown};
 
 use crate::attribute::NlAttr;
 use crate::fault::AttributeFault;
 use crate::row::NlAttrs;
 use crate::text::text_of;
-use crate::visitors::{NLA_TYPE_MASK, NLMSGERR_ATTR_MSG};
+use records::numbers::NLMSGERR_ATTR_MSG;
 
 // The texts of an error message, handed out one by one as parts of its row, without their final zeros.
 #[derive(Drop)]
@@ -17,7 +18,7 @@ pub struct Texts<'a> {
 fn text_in<'a>(attr: NlAttr<'a>) -> Result<&'a [u8], AttributeFault>
     ensures { shown result ≡ text_in (attribute_of attr.entry) }
 {
-    if attr.header.kind & NLA_TYPE_MASK == NLMSGERR_ATTR_MSG {
+    if attr.kind() == NLMSGERR_ATTR_MSG {
         text_of(attr.data)
     } else {
         Err(AttributeFault::Text)
@@ -32,19 +33,17 @@ impl<'a> Texts<'a> {
             row: NlAttrs::new(row),
         }
     }
+}
+
+impl<'a> Iterator for Texts<'a> {
+    type Item = &'a [u8];
+
+    ghost next_gives = { YieldsFirstRef (λ s. texts_of s.row.rest.now) };
+
+    ghost remaining = { item_count (λ s. texts_of s.row.rest.now) };
 
     // The next text, or none where the row ends or is at fault.
-    pub fn next(&mut self) -> Option<&'a [u8]>
-        ensures { texts_of self.old.row.rest.now ≡ headed result (texts_of self.new.row.rest.now) }
-    {
-        while let Some(next) = self.row.next() {
-            let Ok(attr) = next else {
-                return None;
-            };
-            if let Ok(text) = text_in(attr) {
-                return Some(text);
-            }
-        }
-        None
+    fn next(&mut self) -> Option<&'a [u8]> {
+        self.row.find_map(|next| next.and_then(text_in).ok())
     }
 }

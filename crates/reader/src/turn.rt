@@ -1,6 +1,7 @@
 ghost use Rattle.std.specs.Prelude.{◌≡◌, true, false, IsTrue};
 ghost use Rattle.reader.specs.Datagrams.{messages};
 ghost use Rattle.reader.specs.Replies.{at, heeded, onwards, took, closing, closed, read_of, over};
+ghost use Rattle.reader.specs.Turns.{moved};
 ghost use Rattle.reader.specs.declared.stage.Stage.TheVariants.{Going};
 
 use crate::class::Class;
@@ -9,10 +10,7 @@ use crate::fault::{MessageFault, TurnFault};
 use crate::messages::Messages;
 use crate::sink::Sink;
 use crate::stage::Stage;
-
-const NLM_F_MULTI: u16 = 2;
-
-const LONGEST: usize = 4096;
+use records::numbers::{LONGEST_DATAGRAM, NLM_F_MULTI};
 
 // A request and its reply. It is begun with a request that was written, takes the datagrams of the reply one by one, and is closed as
 // unsent, as receive failed, or as read. It cannot be let go otherwise: its `drop` asks that it is spent, and only the three calls that
@@ -51,10 +49,7 @@ impl Turn {
     pub fn has_ended(&self) -> bool
         ensures { result ≡ over self.now.stage }
     {
-        match self.stage {
-            Stage::Going => false,
-            Stage::Ended | Stage::Faulted(_) => true,
-        }
+        !matches!(self.stage, Stage::Going)
     }
 
     // Closes a turn whose request was not sent.
@@ -88,8 +83,7 @@ impl Turn {
     // One message, by its class and the stage together.
     fn heed<S: Sink>(&mut self, class: Class, payload: &[u8], sink: &mut S)
         ensures state { at self.new.stage (S.Sink.view sink.new) ≡ heeded S.Sink.fed self.old.stage (S.Sink.view sink.old) class payload.now }
-        ensures request { self.new.request ≡ self.old.request }
-        ensures spent { self.new.spent ≡ self.old.spent }
+        ensures moved { self.new ≡ moved self.old self.new.stage }
     {
         match (class, self.stage) {
             (_, Stage::Ended | Stage::Faulted(_)) => {}
@@ -107,12 +101,10 @@ impl Turn {
     // The messages of a datagram in turn: whether the last bears NLM_F_MULTI.
     fn walk<S: Sink>(&mut self, datagram: &[u8], sink: &mut S) -> Result<bool, MessageFault>
         ensures state { onwards S.Sink.fed (at self.old.stage (S.Sink.view sink.old)) true (messages datagram.now) ≡ closed (at self.new.stage (S.Sink.view sink.new)) result }
-        ensures request { self.new.request ≡ self.old.request }
-        ensures spent { self.new.spent ≡ self.old.spent }
+        ensures moved { self.new ≡ moved self.old self.new.stage }
     {
-        let mut messages = Messages::new(datagram);
         let mut multi = true;
-        while let Some(next) = messages.next() {
+        for next in Messages::new(datagram) {
             let message = next?;
             let class = class_of(message.header.kind, message.data);
             self.heed(class, message.data, sink);
@@ -123,9 +115,7 @@ impl Turn {
 
     // A datagram that ends on a message without NLM_F_MULTI ends the reply, and so does a fault.
     fn close(&mut self, read: Result<bool, MessageFault>)
-        ensures stage { self.new.stage ≡ closing self.old.stage read }
-        ensures request { self.new.request ≡ self.old.request }
-        ensures spent { self.new.spent ≡ self.old.spent }
+        ensures { self.new ≡ moved self.old (closing self.old.stage read) }
     {
         match (read, self.stage) {
             (_, Stage::Ended | Stage::Faulted(_)) => {}
@@ -138,10 +128,9 @@ impl Turn {
     // Takes one datagram of the reply. A turn that has ended ignores it.
     pub fn take<S: Sink>(&mut self, datagram: &[u8], sink: &mut S)
         ensures state { at self.new.stage (S.Sink.view sink.new) ≡ took S.Sink.fed (at self.old.stage (S.Sink.view sink.old)) datagram.now }
-        ensures request { self.new.request ≡ self.old.request }
-        ensures spent { self.new.spent ≡ self.old.spent }
+        ensures moved { self.new ≡ moved self.old self.new.stage }
     {
-        let read = if datagram.len() > LONGEST {
+        let read = if datagram.len() > LONGEST_DATAGRAM {
             Err(MessageFault::Long(datagram.len()))
         } else {
             self.walk(datagram, sink)

@@ -9,6 +9,7 @@ use crate::fault::AttributeFault;
 use crate::row::NlAttrs;
 
 // What looks at the attributes of a row in turn. Its meaning is a value, and an attribute takes that to the next.
+// No closure: a call of one that was passed in needs a `requires`, and a public function has none.
 pub trait Visitor {
     ghost Sum: { Type 0 };
 
@@ -24,8 +25,7 @@ pub trait Visitor {
 pub fn visit<V: Visitor>(row: &[u8], visitor: &mut V) -> Result<(), AttributeFault>
     ensures { through V.Visitor.met (V.Visitor.view visitor.old) row.now ≡ told result (V.Visitor.view visitor.new) }
 {
-    let mut attrs = NlAttrs::new(row);
-    while let Some(next) = attrs.next() {
+    for next in NlAttrs::new(row) {
         let attr = next?;
         visitor.meet(attr)?;
     }

@@ -3,19 +3,9 @@ ghost use Rattle.reader.specs.Names.{Sought, in_options, in_filter, is_bpf, chec
 
 use crate::attribute::NlAttr;
 use crate::fault::AttributeFault;
-use crate::text::{same, text_of};
+use crate::text::text_of;
 use crate::visit::{Visitor, visit};
-
-// Types are compared without their two flags.
-pub(crate) const NLA_TYPE_MASK: u16 = 0x3FFF;
-
-const TCA_KIND: u16 = 1;
-
-const TCA_OPTIONS: u16 = 2;
-
-const TCA_BPF_NAME: u16 = 7;
-
-pub(crate) const NLMSGERR_ATTR_MSG: u16 = 1;
+use records::numbers::{NLMSGERR_ATTR_MSG, TCA_BPF_NAME, TCA_KIND, TCA_OPTIONS};
 
 // Whether the options hold this name.
 #[derive(Drop)]
@@ -32,9 +22,9 @@ impl<'a> Visitor for Names<'a> {
     ghost met = { in_options };
 
     fn meet(&mut self, attr: NlAttr<'_>) -> Result<(), AttributeFault> {
-        if attr.header.kind & NLA_TYPE_MASK == TCA_BPF_NAME {
+        if attr.kind() == TCA_BPF_NAME {
             let text = text_of(attr.data)?;
-            self.found = self.found || same(text, self.name);
+            self.found |= text == self.name;
         }
         Ok(())
     }
@@ -54,7 +44,7 @@ impl<'a> Visitor for Options<'a> {
     ghost met = { in_filter };
 
     fn meet(&mut self, attr: NlAttr<'_>) -> Result<(), AttributeFault> {
-        if attr.header.kind & NLA_TYPE_MASK == TCA_OPTIONS {
+        if attr.kind() == TCA_OPTIONS {
             visit(attr.data, &mut self.names)?;
         }
         Ok(())
@@ -75,8 +65,7 @@ impl Visitor for Kind {
     ghost met = { is_bpf };
 
     fn meet(&mut self, attr: NlAttr<'_>) -> Result<(), AttributeFault> {
-        self.bpf = self.bpf
-            || attr.header.kind & NLA_TYPE_MASK == TCA_KIND && same(attr.data, b"bpf\0");
+        self.bpf |= attr.kind() == TCA_KIND && attr.data == b"bpf\0".as_slice();
         Ok(())
     }
 }
@@ -93,7 +82,7 @@ impl Visitor for TextCheck {
     ghost met = { checked_text };
 
     fn meet(&mut self, attr: NlAttr<'_>) -> Result<(), AttributeFault> {
-        if attr.header.kind & NLA_TYPE_MASK == NLMSGERR_ATTR_MSG {
+        if attr.kind() == NLMSGERR_ATTR_MSG {
             let _text = text_of(attr.data)?;
         }
         Ok(())

@@ -8,7 +8,7 @@ pub fn align(len: u32) -> usize
     ensures least { (k : ℕ) → len ≤ 4 * k → result ≤ 4 * k }
     ensures bound { (len ≤ result) × (result < len + 4) }
 {
-    (len as usize + 3) / 4 * 4
+    (len as usize).next_multiple_of(4)
 }
 
 // How many bytes of padding follow `len` bytes.

@@ -7,7 +7,7 @@ ghost use Rattle.std.proofs.lemmas.List.{get_or-take};
 use crate::record::Record;
 
 // The family header of a request about a network interface.
-#[derive(Clone, Copy, PartialEq, Eq, Debug)]
+#[derive(Clone, Copy, PartialEq, Eq, Hash, Default, Debug)]
 pub struct Ifinfomsg {
     pub family: u8,
     pub pad: u8,
@@ -94,18 +94,13 @@ impl Record for Ifinfomsg {
             flags,
             change,
         } = *self;
-        let [a0] = family.to_le_bytes();
-        let [q0] = pad.to_le_bytes();
         let [k0, k1] = kind.to_le_bytes();
         let [i0, i1, i2, i3] = index.to_le_bytes();
         let [f0, f1, f2, f3] = flags.to_le_bytes();
         let [c0, c1, c2, c3] = change.to_le_bytes();
-        if out.len() < 16 {
-            return None;
-        }
-        out[0..16].copy_from_slice(&[
-            a0, q0, k0, k1, i0, i1, i2, i3, f0, f1, f2, f3, c0, c1, c2, c3,
-        ]);
+        *out.first_chunk_mut()? = [
+            family, pad, k0, k1, i0, i1, i2, i3, f0, f1, f2, f3, c0, c1, c2, c3,
+        ];
         Some(16)
     }
 }

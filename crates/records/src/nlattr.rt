@@ -6,7 +6,7 @@ ghost use Rattle.records.specs.WordsLemmas.{spelled, half_again, le2_take};
 use crate::record::Record;
 
 // The header of an attribute.
-#[derive(Clone, Copy, PartialEq, Eq, Debug)]
+#[derive(Clone, Copy, PartialEq, Eq, Hash, Default, Debug)]
 pub struct Nlattr {
     pub len: u16,
     pub kind: u16,
@@ -55,10 +55,7 @@ impl Record for Nlattr {
         let Nlattr { len, kind } = *self;
         let [l0, l1] = len.to_le_bytes();
         let [k0, k1] = kind.to_le_bytes();
-        if out.len() < 4 {
-            return None;
-        }
-        out[0..4].copy_from_slice(&[l0, l1, k0, k1]);
+        *out.first_chunk_mut()? = [l0, l1, k0, k1];
         Some(4)
     }
 }

@@ -7,10 +7,10 @@ ghost use Rattle.records.specs.Headers.{header_again, header_front};
 ghost use Rattle.records.specs.NlmsgerrRecordLemmas.{four};
 
 use crate::nlmsghdr::Nlmsghdr;
-use crate::record::{Record, write};
+use crate::record::Record;
 
 // What an error message begins with: a status, 0 or a negated error number, and the header of the message it answers.
-#[derive(Clone, Copy, PartialEq, Eq, Debug)]
+#[derive(Clone, Copy, PartialEq, Eq, Hash, Default, Debug)]
 pub struct Nlmsgerr {
     pub status: i32,
     pub header: Nlmsghdr,
@@ -57,13 +57,9 @@ impl Record for Nlmsgerr {
 
     fn encode(&self, out: &mut [u8]) -> Option<usize> {
         let Nlmsgerr { status, header } = *self;
-        if out.len() < 20 {
-            return None;
-        }
-        out[0..4].copy_from_slice(&status.to_le_bytes());
-        let Some(end) = write(&header, out, 4) else {
-            return None;
-        };
-        Some(end)
+        let (first, rest) = out.split_first_chunk_mut()?;
+        let taken = header.encode(rest)?;
+        *first = status.to_le_bytes();
+        Some(4 + taken)
     }
 }

@@ -6,7 +6,7 @@ ghost use Rattle.std.proofs.Common.{rules};
 use crate::record::Record;
 
 // The header of a message.
-#[derive(Clone, Copy, PartialEq, Eq, Debug)]
+#[derive(Clone, Copy, PartialEq, Eq, Hash, Default, Debug)]
 pub struct Nlmsghdr {
     pub len: u32,
     pub kind: u16,
@@ -82,12 +82,9 @@ impl Record for Nlmsghdr {
         let [f0, f1] = flags.to_le_bytes();
         let [s0, s1, s2, s3] = seq.to_le_bytes();
         let [p0, p1, p2, p3] = pid.to_le_bytes();
-        if out.len() < 16 {
-            return None;
-        }
-        out[0..16].copy_from_slice(&[
+        *out.first_chunk_mut()? = [
             l0, l1, l2, l3, k0, k1, f0, f1, s0, s1, s2, s3, p0, p1, p2, p3,
-        ]);
+        ];
         Some(16)
     }
 }

@@ -17,7 +17,8 @@ pub trait Record: Sized {
     fn width() -> usize
         ensures { result ≡ wide };
 
-    // The record at the front and the bytes behind it; none where there are too few.
+    // The record at the front and the bytes behind it; none where there are too few. Each record names its bytes in a
+    // slice pattern, so that its layout is read off the code.
     fn decode(input: &[u8]) -> Option<(Self, &[u8])>
         ensures { MatchOption result (length input.now < wide) (λ p. (wide ≤ length input.now) × (p.0 ≡ of input.now) × (p.1.now ≡ drop wide input.now) × fits p.0) };
 
@@ -39,10 +40,7 @@ pub trait Record: Sized {
 pub fn read<R: Record>(input: &[u8], at: usize) -> Option<(R, &[u8])>
     ensures { MatchOption result (length input.now < at + R.wide) (λ p. R.fits p.0 × (p.0 ≡ R.of (drop at input.now)) × (input.now ≡ take at input.now ++ (R.bytes p.0 ++ p.1.now))) }
 {
-    if input.len() < at {
-        return None;
-    }
-    R::decode(&input[at..])
+    R::decode(input.get(at..)?)
 }
 
 // Writes a record at place `at` and says where it ends; none, and nothing written, where there is too little room.
@@ -50,11 +48,7 @@ pub fn read<R: Record>(input: &[u8], at: usize) -> Option<(R, &[u8])>
 pub fn write<R: Record>(record: &R, out: &mut [u8], at: usize) -> Option<usize>
     ensures { MatchOption result ((length out.old < at + R.wide) × (out.new ≡ out.old)) (λ e. (e ≡ at + R.wide) × (e ≤ length out.old) × R.fits «record».now × (out.new ≡ take at out.old ++ (R.bytes «record».now ++ drop (at + R.wide) out.old)) × (R.of (drop at out.new) ≡ «record».now)) }
 {
-    if out.len() < at {
-        return None;
-    }
-    let Some(taken) = record.encode(&mut out[at..]) else {
-        return None;
-    };
+    let (_, rest) = out.split_at_mut_checked(at)?;
+    let taken = record.encode(rest)?;
     Some(at + taken)
 }

@@ -7,7 +7,7 @@ ghost use Rattle.std.proofs.lemmas.List.{get_or-take};
 use crate::record::Record;
 
 // The family header of a traffic control request.
-#[derive(Clone, Copy, PartialEq, Eq, Debug)]
+#[derive(Clone, Copy, PartialEq, Eq, Hash, Default, Debug)]
 pub struct Tcmsg {
     pub family: u8,
     pub pad1: u8,
@@ -103,19 +103,14 @@ impl Record for Tcmsg {
             parent,
             info,
         } = *self;
-        let [a0] = family.to_le_bytes();
-        let [b0] = pad1.to_le_bytes();
         let [q0, q1] = pad2.to_le_bytes();
         let [i0, i1, i2, i3] = ifindex.to_le_bytes();
         let [h0, h1, h2, h3] = handle.to_le_bytes();
         let [p0, p1, p2, p3] = parent.to_le_bytes();
         let [n0, n1, n2, n3] = info.to_le_bytes();
-        if out.len() < 20 {
-            return None;
-        }
-        out[0..20].copy_from_slice(&[
-            a0, b0, q0, q1, i0, i1, i2, i3, h0, h1, h2, h3, p0, p1, p2, p3, n0, n1, n2, n3,
-        ]);
+        *out.first_chunk_mut()? = [
+            family, pad1, q0, q1, i0, i1, i2, i3, h0, h1, h2, h3, p0, p1, p2, p3, n0, n1, n2, n3,
+        ];
         Some(20)
     }
 }

@@ -1,4 +1,4 @@
-ghost use Rattle.std.specs.Prelude.{◌≤◌, length, IfSome};
+ghost use Rattle.std.specs.Prelude.{◌<◌, ◌≤◌, length, IfSome};
 ghost use Rattle.records.specs.Align.{padded};
 ghost use Rattle.std.specs.Iterator.{at_most};
 
@@ -6,7 +6,7 @@ use records::align::align;
 use records::ifinfomsg::Ifinfomsg;
 use records::nlattr::Nlattr;
 use records::nlmsghdr::Nlmsghdr;
-use records::record::{Record, read};
+use records::record::Record;
 use records::tcmsg::Tcmsg;
 use requests::handle::TcHandle;
 use requests::numbers::{
@@ -27,7 +27,6 @@ pub(crate) enum Label {
 // What the bytes of a part say.
 #[derive(Clone, Copy)]
 pub(crate) enum Meaning<'a> {
-    Nothing,
     Message(Nlmsghdr),
     MessageFlags(Nlmsghdr),
     Traffic(Tcmsg),
@@ -52,26 +51,21 @@ pub(crate) enum Meaning<'a> {
     Unknown,
 }
 
-// Bytes of a request that belong together, how deep they are nested, and what they say, in up to two lines.
+// Whether a part stands inside a nested attribute.
+#[derive(Clone, Copy)]
+pub(crate) enum Depth {
+    Outer,
+    Inner,
+}
+
+// Bytes of a request that belong together, how deep they are nested, and what they say, in one line or two.
 #[derive(Clone, Copy)]
 pub(crate) struct Part<'a> {
     pub(crate) label: Label,
-    pub(crate) depth: usize,
+    pub(crate) depth: Depth,
     pub(crate) bytes: &'a [u8],
     pub(crate) meaning: Meaning<'a>,
-    pub(crate) further: Meaning<'a>,
-}
-
-impl<'a> Part<'a> {
-    fn rest(depth: usize, bytes: &'a [u8]) -> Part<'a> {
-        Part {
-            label: Label::Rest,
-            depth,
-            bytes,
-            meaning: Meaning::Unknown,
-            further: Meaning::Nothing,
-        }
-    }
+    pub(crate) further: Option<Meaning<'a>>,
 }
 
 // Where an attribute stands, which decides what its type means.
@@ -95,14 +89,8 @@ struct Attribute<'a> {
     padding: usize,
 }
 
-// What is cut off next.
-#[derive(Clone, Copy)]
-enum Cut<'a> {
-    Whole(Attribute<'a>),
-    Rest(&'a [u8]),
-}
-
-// The attributes that follow one another in these bytes.
+// The attributes that follow one another in these bytes, and at the end the bytes that are none. Not the reader's walk over a row: a part
+// shows the bytes of an attribute's header and of its padding too.
 #[derive(Drop)]
 struct Attributes<'a> {
     left_over: &'a [u8],
@@ -112,57 +100,82 @@ struct Attributes<'a> {
 fn attribute_header(bytes: &[u8]) -> Option<Nlattr>
     ensures { IfSome result (λ h. (4 ≤ h.len) × (padded h.len ≤ length «bytes».now)) }
 {
-    let Some((header, _)) = read::<Nlattr>(bytes, 0) else {
-        return None;
+    let (header, _) = Nlattr::decode(bytes)?;
+    let is_whole = header.len >= 4 && bytes.len() >= align(u32::from(header.len));
+    is_whole.then_some(header)
+}
+
+// The attribute at the front, and the bytes behind it.
+fn cut_attribute(bytes: &[u8]) -> Option<(Attribute<'_>, &[u8])>
+    ensures { IfSome result (λ cut. length cut.1.now < length «bytes».now) }
+{
+    let header = attribute_header(bytes)?;
+    let len = usize::from(header.len);
+    let end = align(u32::from(header.len));
+    let (whole, behind) = bytes.split_at(end);
+    let attribute = Attribute {
+        kind: header.kind & !NLA_F_NESTED,
+        nested: header.kind & NLA_F_NESTED != 0,
+        header: &whole[0..4],
+        whole,
+        payload: &whole[4..len],
+        padding: end - len,
     };
-    if header.len < 4 || bytes.len() < align(u32::from(header.len)) {
-        return None;
-    }
-    Some(header)
+    Some((attribute, behind))
 }
 
 impl<'a> Iterator for Attributes<'a> {
-    type Item = Cut<'a>;
+    type Item = Result<Attribute<'a>, &'a [u8]>;
 
     ghost remaining = { λ s. at_most (length s.left_over.now) };
 
-    fn next(&mut self) -> Option<Cut<'a>> {
+    fn next(&mut self) -> Option<Result<Attribute<'a>, &'a [u8]>> {
         let bytes = self.left_over;
         if bytes.is_empty() {
             return None;
         }
-        let Some(header) = attribute_header(bytes) else {
-            self.left_over = &[];
-            return Some(Cut::Rest(bytes));
-        };
-        let len = usize::from(header.len);
-        let end = align(u32::from(header.len));
-        let (whole, behind) = bytes.split_at(end);
-        self.left_over = behind;
-        Some(Cut::Whole(Attribute {
-            kind: header.kind % NLA_F_NESTED,
-            nested: header.kind >= NLA_F_NESTED,
-            header: &whole[0..4],
-            whole,
-            payload: &whole[4..len],
-            padding: end - len,
-        }))
+        match cut_attribute(bytes) {
+            Some((attribute, behind)) => {
+                self.left_over = behind;
+                Some(Ok(attribute))
+            }
+            None => {
+                self.left_over = &[];
+                Some(Err(bytes))
+            }
+        }
     }
 }
 
-// The record at the front, its bytes, and the bytes behind it.
-fn cut_record<R: Record>(bytes: &[u8]) -> Option<(R, &[u8], &[u8])> {
-    let (front, behind) = bytes.split_at_checked(R::width())?;
-    let (record, _) = read::<R>(front, 0)?;
-    Some((record, front, behind))
+// A header of a request: its label, and what it says, in one line or two.
+trait Header: Record + Copy {
+    const LABEL: Label;
+
+    fn meaning(self) -> (Meaning<'static>, Option<Meaning<'static>>);
 }
 
-// The number that a payload of 4 bytes holds, the lowest byte first.
-fn number_in(payload: &[u8]) -> Option<u32> {
-    let [a, b, c, d] = payload else {
-        return None;
-    };
-    Some(u32::from_le_bytes([*a, *b, *c, *d]))
+impl Header for Nlmsghdr {
+    const LABEL: Label = Label::Header;
+
+    fn meaning(self) -> (Meaning<'static>, Option<Meaning<'static>>) {
+        (Meaning::Message(self), Some(Meaning::MessageFlags(self)))
+    }
+}
+
+impl Header for Ifinfomsg {
+    const LABEL: Label = Label::FamilyHeader;
+
+    fn meaning(self) -> (Meaning<'static>, Option<Meaning<'static>>) {
+        (Meaning::Interface(self), None)
+    }
+}
+
+impl Header for Tcmsg {
+    const LABEL: Label = Label::FamilyHeader;
+
+    fn meaning(self) -> (Meaning<'static>, Option<Meaning<'static>>) {
+        (Meaning::Traffic(self), Some(Meaning::TrafficInfo(self)))
+    }
 }
 
 fn text_meaning<'a>(subject: &'static str, attribute: Attribute<'a>) -> Meaning<'a> {
@@ -179,12 +192,8 @@ fn text_meaning<'a>(subject: &'static str, attribute: Attribute<'a>) -> Meaning<
 fn number_meaning<'a>(place: Place, kind: u16, bits: u32) -> Meaning<'a> {
     match (place, kind) {
         (Place::Options, TCA_BPF_CLASSID) => Meaning::Class(TcHandle::from(bits)),
-        (Place::Options, TCA_BPF_FD) => Meaning::Descriptor {
-            subject: "descriptor",
-            bits,
-        },
         (Place::Options, TCA_BPF_FLAGS) => Meaning::FilterFlags(bits),
-        (Place::Xdp, IFLA_XDP_FD) => Meaning::Descriptor {
+        (Place::Options, TCA_BPF_FD) | (Place::Xdp, IFLA_XDP_FD) => Meaning::Descriptor {
             subject: "descriptor",
             bits,
         },
@@ -201,10 +210,11 @@ fn meaning_of<'a>(place: Place, attribute: Attribute<'a>) -> Meaning<'a> {
     match (place, attribute.kind) {
         (Place::Traffic, TCA_KIND) => text_meaning("kind", attribute),
         (Place::Options, TCA_BPF_NAME) => text_meaning("name", attribute),
-        (_, kind) => match number_in(attribute.payload) {
-            Some(bits) => number_meaning(place, kind, bits),
-            None => Meaning::Unknown,
-        },
+        // a payload of 4 bytes is a number, the lowest byte first
+        (_, kind) => <[u8; 4]>::try_from(attribute.payload).map_or(
+            Meaning::Unknown,
+            |bytes| number_meaning(place, kind, u32::from_le_bytes(bytes)),
+        ),
     }
 }
 
@@ -217,28 +227,30 @@ fn inside(place: Place, kind: u16) -> (&'static str, Place) {
     }
 }
 
-fn plain_part<'a>(depth: usize, place: Place, attribute: Attribute<'a>) -> Part<'a> {
-    Part {
-        label: Label::Attribute(attribute.kind),
-        depth,
-        bytes: attribute.whole,
-        meaning: meaning_of(place, attribute),
-        further: Meaning::Nothing,
-    }
-}
-
-fn inner_parts<'a>(
-    parts: &mut Vec<Part<'a>>,
-    place: Place,
-    bytes: &'a [u8],
-) -> Result<(), AllocError> {
-    for cut in (Attributes { left_over: bytes }) {
-        match cut {
-            Cut::Whole(attribute) => parts.push(plain_part(1, place, attribute))?,
-            Cut::Rest(rest) => parts.push(Part::rest(1, rest))?,
+impl<'a> Part<'a> {
+    fn rest(depth: Depth, bytes: &'a [u8]) -> Part<'a> {
+        Part {
+            label: Label::Rest,
+            depth,
+            bytes,
+            meaning: Meaning::Unknown,
+            further: None,
         }
     }
-    Ok(())
+
+    // An attribute that is shown whole, or what is left over behind the last one.
+    fn plain(depth: Depth, place: Place, cut: Result<Attribute<'a>, &'a [u8]>) -> Part<'a> {
+        match cut {
+            Ok(attribute) => Part {
+                label: Label::Attribute(attribute.kind),
+                depth,
+                bytes: attribute.whole,
+                meaning: meaning_of(place, attribute),
+                further: None,
+            },
+            Err(rest) => Part::rest(depth, rest),
+        }
+    }
 }
 
 // A nested attribute: its header, and then what it holds.
@@ -251,14 +263,18 @@ fn nested_parts<'a>(
     let len = attribute.whole.len();
     parts.push(Part {
         label: Label::Attribute(attribute.kind),
-        depth: 0,
+        depth: Depth::Outer,
         bytes: attribute.header,
         meaning: Meaning::Nested { subject, len },
-        further: Meaning::Nothing,
+        further: None,
     })?;
-    inner_parts(parts, inner, attribute.payload)
+    let attributes = Attributes {
+        left_over: attribute.payload,
+    };
+    parts.extend(attributes.map(|cut| Part::plain(Depth::Inner, inner, cut)))
 }
 
+// `parts` goes from function to function: a struct round one Vec would be no plainer.
 fn attribute_parts<'a>(
     parts: &mut Vec<Part<'a>>,
     place: Place,
@@ -266,67 +282,61 @@ fn attribute_parts<'a>(
 ) -> Result<(), AllocError> {
     for cut in (Attributes { left_over: bytes }) {
         match cut {
-            Cut::Whole(attribute) => {
-                if attribute.nested {
-                    nested_parts(parts, place, attribute)?;
-                } else {
-                    parts.push(plain_part(0, place, attribute))?;
-                }
-            }
-            Cut::Rest(rest) => parts.push(Part::rest(0, rest))?,
+            Ok(attribute) if attribute.nested => nested_parts(parts, place, attribute)?,
+            _ => parts.push(Part::plain(Depth::Outer, place, cut))?,
         }
     }
     Ok(())
 }
 
-fn interface_parts<'a>(parts: &mut Vec<Part<'a>>, bytes: &'a [u8]) -> Result<(), AllocError> {
-    let Some((header, front, behind)) = cut_record::<Ifinfomsg>(bytes) else {
-        parts.push(Part::rest(0, bytes))?;
-        return Ok(());
-    };
-    parts.push(Part {
-        label: Label::FamilyHeader,
-        depth: 0,
-        bytes: front,
-        meaning: Meaning::Interface(header),
-        further: Meaning::Nothing,
-    })?;
-    attribute_parts(parts, Place::Interface, behind)
+// The record at the front, its bytes, and the bytes behind it.
+fn cut_record<R: Record>(bytes: &[u8]) -> Option<(R, &[u8], &[u8])> {
+    let (front, behind) = bytes.split_at_checked(R::width())?;
+    let (record, _) = R::decode(front)?;
+    Some((record, front, behind))
 }
 
-fn traffic_parts<'a>(parts: &mut Vec<Part<'a>>, bytes: &'a [u8]) -> Result<(), AllocError> {
-    let Some((header, front, behind)) = cut_record::<Tcmsg>(bytes) else {
-        parts.push(Part::rest(0, bytes))?;
-        return Ok(());
+// A header at the front, with the bytes behind it; none where there is no whole one.
+fn header_part<'a, H: Header>(
+    parts: &mut Vec<Part<'a>>,
+    bytes: &'a [u8],
+) -> Result<Option<(H, &'a [u8])>, AllocError> {
+    let Some((header, front, behind)) = cut_record::<H>(bytes) else {
+        parts.push(Part::rest(Depth::Outer, bytes))?;
+        return Ok(None);
     };
+    let (meaning, further) = header.meaning();
     parts.push(Part {
-        label: Label::FamilyHeader,
-        depth: 0,
+        label: H::LABEL,
+        depth: Depth::Outer,
         bytes: front,
-        meaning: Meaning::Traffic(header),
-        further: Meaning::TrafficInfo(header),
+        meaning,
+        further,
     })?;
-    attribute_parts(parts, Place::Traffic, behind)
+    Ok(Some((header, behind)))
+}
+
+// A family header, and the attributes behind it.
+fn family_parts<'a, H: Header>(
+    parts: &mut Vec<Part<'a>>,
+    place: Place,
+    bytes: &'a [u8],
+) -> Result<(), AllocError> {
+    if let Some((_, behind)) = header_part::<H>(parts, bytes)? {
+        attribute_parts(parts, place, behind)?;
+    }
+    Ok(())
 }
 
 // Cuts the bytes of a request into its headers and attributes, in their order.
 pub(crate) fn dissect<'a>(heap: Global, bytes: &'a [u8]) -> Result<Vec<Part<'a>>, AllocError> {
     let mut parts = Vec::new(heap);
-    let Some((header, front, behind)) = cut_record::<Nlmsghdr>(bytes) else {
-        parts.push(Part::rest(0, bytes))?;
-        return Ok(parts);
-    };
-    parts.push(Part {
-        label: Label::Header,
-        depth: 0,
-        bytes: front,
-        meaning: Meaning::Message(header),
-        further: Meaning::MessageFlags(header),
-    })?;
-    if header.kind == RTM_SETLINK {
-        interface_parts(&mut parts, behind)?;
-    } else {
-        traffic_parts(&mut parts, behind)?;
+    if let Some((header, behind)) = header_part::<Nlmsghdr>(&mut parts, bytes)? {
+        if header.kind == RTM_SETLINK {
+            family_parts::<Ifinfomsg>(&mut parts, Place::Interface, behind)?;
+        } else {
+            family_parts::<Tcmsg>(&mut parts, Place::Traffic, behind)?;
+        }
     }
     Ok(parts)
 }

@@ -8,7 +8,6 @@ mod recorded;
 mod script;
 mod show;
 mod trial;
-mod verdict;
 
 use recorded::Recorded;
 use script::{Command, Misread};
@@ -22,6 +21,7 @@ enum Stop<'a> {
     Output(io::Error),
 }
 
+// By hand: a stop is no error that prints itself, as a derive of its conversions would have it.
 impl<'a> From<Misread<'a>> for Stop<'a> {
     fn from(misread: Misread<'a>) -> Stop<'a> {
         Stop::Misread(misread)
@@ -34,8 +34,8 @@ impl<'a> From<io::Error> for Stop<'a> {
     }
 }
 
-// How many lines came to each outcome.
-#[derive(Clone, Copy)]
+// How many lines came to each outcome. No map by outcome: `show` calls each count by its name.
+#[derive(Clone, Copy, Default)]
 struct Tally {
     written: u64,
     read: u64,
@@ -44,20 +44,14 @@ struct Tally {
 }
 
 impl Tally {
-    const NONE: Tally = Tally {
-        written: 0,
-        read: 0,
-        refused: 0,
-        not_understood: 0,
-    };
-
     fn count(&mut self, outcome: Outcome) {
-        match outcome {
-            Outcome::Written => self.written = self.written.saturating_add(1),
-            Outcome::Read => self.read = self.read.saturating_add(1),
-            Outcome::Refused => self.refused = self.refused.saturating_add(1),
-            Outcome::NotUnderstood => self.not_understood = self.not_understood.saturating_add(1),
-        }
+        let count = match outcome {
+            Outcome::Written => &mut self.written,
+            Outcome::Read => &mut self.read,
+            Outcome::Refused => &mut self.refused,
+            Outcome::NotUnderstood => &mut self.not_understood,
+        };
+        *count = count.saturating_add(1);
     }
 
     fn show(&self, rt: &HostRuntime) -> io::Result<()> {
@@ -117,10 +111,8 @@ fn pass_over(rt: &HostRuntime, number: u64, error: io::Error) -> io::Result<Opti
 }
 
 fn main(rt: HostRuntime) -> io::Result<()> {
-    let mut tally = Tally::NONE;
-    let mut number = 0u64;
-    for line in rt.lines(rt.alloc()) {
-        number = number.saturating_add(1);
+    let mut tally = Tally::default();
+    for (number, line) in (1u64..).zip(rt.lines(rt.alloc())) {
         let outcome = match line {
             Ok(line) => rehearse(&rt, number, line.as_str())?,
             Err(error) => pass_over(&rt, number, error)?,

@@ -1,16 +1,15 @@
 use crate::script::{Misread, hex_bytes};
 use crate::show::Readable;
 use crate::trial::Outcome;
-use crate::verdict::{Count, Found, Verdict};
 use reader::echo::Echo;
 use reader::fault::TurnFault;
-use reader::matches::MatchTable;
+use reader::matches::{Match, MatchTable};
 use reader::reply::texts_of;
 use reader::sink::Sink;
 use reader::sinks::{Acknowledgement, Finder};
 use reader::turn::Turn;
 use std::alloc::Global;
-use std::io;
+use std::{fmt, io};
 
 // Which request a recorded reply answers.
 #[derive(Clone, Copy)]
@@ -23,6 +22,45 @@ pub(crate) enum Awaited<'a> {
     Matches(&'a str),
 }
 
+// What a reply says that was read to its end.
+#[derive(Clone, Copy)]
+enum Answer<'a> {
+    Acknowledged,
+    Echo(Match),
+    // the matches with this name
+    Matches(&'a str, MatchTable),
+}
+
+impl fmt::Display for Answer<'_> {
+    fn fmt<W: fmt::Write>(&self, f: &mut fmt::Formatter<W>) -> fmt::Result {
+        match self {
+            Answer::Acknowledged => write!(f, "acknowledged"),
+            Answer::Echo(found) => write!(f, "the echo of {found}"),
+            Answer::Matches(name, table) => {
+                write!(f, "{} with the name {name}", Count(table.len()))?;
+                for found in table.as_slice() {
+                    write!(f, "\n    {found}")?;
+                }
+                Ok(())
+            }
+        }
+    }
+}
+
+// So many matches.
+#[derive(Clone, Copy)]
+struct Count(usize);
+
+impl fmt::Display for Count {
+    fn fmt<W: fmt::Write>(&self, f: &mut fmt::Formatter<W>) -> fmt::Result {
+        match self.0 {
+            0 => write!(f, "no match"),
+            1 => write!(f, "1 match"),
+            n => write!(f, "{n} matches"),
+        }
+    }
+}
+
 // A recorded reply, in its datagrams.
 #[derive(Drop)]
 pub(crate) struct Recorded<'a> {
@@ -31,22 +69,10 @@ pub(crate) struct Recorded<'a> {
 }
 
 fn datagram<'a>(heap: Global, text: &'a str) -> Result<Vec<u8>, Misread<'a>> {
-    if text == "-" {
-        return Ok(Vec::new(heap));
+    match text {
+        "-" => Ok(Vec::new(heap)),
+        _ => hex_bytes(heap, text, Misread::Datagram(text)),
     }
-    match hex_bytes(heap, text) {
-        Ok(bytes) => Ok(bytes),
-        Err(Misread::NoMemory) => Err(Misread::NoMemory),
-        Err(_) => Err(Misread::Datagram(text)),
-    }
-}
-
-fn datagrams<'a>(heap: Global, text: &'a str) -> Result<Vec<Vec<u8>>, Misread<'a>> {
-    let mut all = Vec::new(heap);
-    for part in text.split(',') {
-        all.push(datagram(heap, part)?)?;
-    }
-    Ok(all)
 }
 
 impl<'a> Recorded<'a> {
@@ -56,102 +82,66 @@ impl<'a> Recorded<'a> {
         let awaited = match tokens.next() {
             Some("acknowledgement") => Awaited::Acknowledgement,
             Some("echo") => Awaited::Echo,
-            Some("listing") => match tokens.next() {
-                Some(name) => Awaited::Matches(name),
-                None => return Err(Misread::NoName),
-            },
+            Some("listing") => Awaited::Matches(tokens.next().ok_or(Misread::NoName)?),
             Some(other) => return Err(Misread::UnknownReply(other)),
             None => return Err(Misread::NoReply),
         };
-        let Some(text) = tokens.next() else {
-            return Err(Misread::NoReply);
-        };
-        let datagrams = datagrams(heap, text)?;
+        let text = tokens.next().ok_or(Misread::NoReply)?;
+        let datagrams = text
+            .split(',')
+            .map(|part| datagram(heap, part))
+            .try_collect(heap)?;
         Ok(Recorded { awaited, datagrams })
     }
 
     pub(crate) fn play(&self, rt: &HostRuntime) -> io::Result<Outcome> {
-        match self.awaited {
-            Awaited::Acknowledgement => self.play_acknowledgement(rt),
-            Awaited::Echo => self.play_echo(rt),
-            Awaited::Matches(name) => self.play_listing(rt, name),
-        }
-    }
-
-    fn play_acknowledgement(&self, rt: &HostRuntime) -> io::Result<Outcome> {
-        let mut sink = Acknowledgement;
-        match self.turn(rt, &mut sink)? {
-            Ok(_) => println!(rt; "  read to its end: acknowledged")?,
-            Err(fault) => return self.show_fault(rt, fault),
-        }
-        Ok(Outcome::Read)
-    }
-
-    fn play_echo(&self, rt: &HostRuntime) -> io::Result<Outcome> {
-        let mut sink = Echo::Nothing;
-        if let Err(fault) = self.turn(rt, &mut sink)? {
-            return self.show_fault(rt, fault);
-        }
-        match sink.answer() {
-            Ok(found) => println!(rt; "  read to its end: the echo of {}", Found(found))?,
-            Err(fault) => return self.show_fault(rt, fault),
-        }
-        Ok(Outcome::Read)
-    }
-
-    fn play_listing(&self, rt: &HostRuntime, name: &str) -> io::Result<Outcome> {
-        let mut sink = Finder {
-            name: name.as_bytes(),
-            table: MatchTable::empty(),
+        let (taken, answer) = match self.awaited {
+            Awaited::Acknowledgement => self.read(Acknowledgement, |_| Ok(Answer::Acknowledged)),
+            Awaited::Echo => self.read(Echo::Nothing, |echo| Ok(Answer::Echo(echo.answer()?))),
+            Awaited::Matches(name) => self.read(
+                Finder {
+                    name: name.as_bytes(),
+                    table: MatchTable::empty(),
+                },
+                |finder| Ok(Answer::Matches(name, finder.table)),
+            ),
         };
-        let read = self.turn(rt, &mut sink)?;
-        let Finder { name: _, table } = sink;
-        if let Err(fault) = read {
-            return self.show_fault(rt, fault);
-        }
-        println!(rt;
-            "  read to its end: {} with the name {name}",
-            Count(table.len())
-        )?;
-        for place in 0..table.len() {
-            if let Some(found) = table.get(place) {
-                println!(rt; "    {}", Found(found))?;
-            }
-        }
-        Ok(Outcome::Read)
-    }
-
-    // The datagrams in turn, until the reply has ended.
-    fn taken<S: Sink>(&self, sink: &mut S) -> (usize, Result<usize, TurnFault>) {
-        let mut turn = Turn::begin(0);
-        let mut taken = 0usize;
-        for datagram in self.datagrams.iter() {
-            if !turn.has_ended() {
-                turn.take(datagram.as_slice(), sink);
-                taken = taken.saturating_add(1);
-            }
-        }
-        (taken, turn.read())
-    }
-
-    fn turn<S: Sink>(
-        &self,
-        rt: &HostRuntime,
-        sink: &mut S,
-    ) -> io::Result<Result<usize, TurnFault>> {
-        let (taken, read) = self.taken(sink);
         let all = self.datagrams.len();
         println!(rt; "  datagrams taken: {taken} of {all}")?;
-        match read {
-            Ok(_) => Ok(Ok(taken)),
-            Err(fault) => Ok(Err(fault)),
+        match answer {
+            Ok(answer) => {
+                println!(rt; "  read to its end: {answer}")?;
+                Ok(Outcome::Read)
+            }
+            Err(fault) => self.show_fault(rt, fault),
         }
+    }
+
+    // Takes the datagrams in turn, until the reply has ended: how many, and what was read.
+    fn read<S: Sink + Drop, F: FnOnce(S) -> Result<Answer<'a>, TurnFault>>(
+        &self,
+        mut sink: S,
+        answer: F,
+    ) -> (usize, Result<Answer<'a>, TurnFault>)
+        requires { F.IsAlwaysCallable answer }
+    {
+        let mut turn = Turn::begin(0);
+        // counted here: the reply may end before the datagrams do
+        let mut taken = 0usize;
+        for datagram in &self.datagrams {
+            if turn.has_ended() {
+                break;
+            }
+            turn.take(datagram.as_slice(), &mut sink);
+            taken = taken.saturating_add(1);
+        }
+        (taken, turn.read().and(answer(sink)))
     }
 
     fn show_fault(&self, rt: &HostRuntime, fault: TurnFault) -> io::Result<Outcome> {
-        println!(rt; "  refused, number {}: {}", fault.number(), Verdict(fault))?;
+        println!(rt; "  refused, number {}: {fault}", fault.number())?;
         if fault.errno().is_some() {
-            for datagram in self.datagrams.iter() {
+            for datagram in &self.datagrams {
                 show_texts(rt, datagram.as_slice())?;
             }
         }
@@ -161,11 +151,7 @@ impl<'a> Recorded<'a> {
 
 // The texts of a refusal; a kernel sends one.
 fn show_texts(rt: &HostRuntime, datagram: &[u8]) -> io::Result<()> {
-    let mut texts = texts_of(datagram);
-    for _ in 0..16 {
-        let Some(text) = texts.next() else {
-            break;
-        };
+    for text in texts_of(datagram).take(16) {
         println!(rt; "    text: \"{}\"", Readable(text))?;
     }
     Ok(())

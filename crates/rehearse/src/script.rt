@@ -1,11 +1,13 @@
-ghost use Rattle.std.specs.Prelude.{◌≡◌, ℕ, ◌/◌, ◌%◌, ◌≤◌, length, IfSome, MatchOption, slice_index};
-ghost use Rattle.rehearse.specs.Hex.{Digit};
+ghost use Rattle.std.specs.Prelude.{◌≡◌, ◌≤◌, ◌⊎◌, IfErr, IfOk, IfSome, IsErr};
+ghost use Rattle.hex.specs.Hex.{decode_of};
+ghost use Rattle.rehearse.specs.declared.script.Misread.TheVariants.{NoMemory};
 
 use crate::show::Brief;
+use hex::FromHexError;
 use requests::handle::{TcAttachType, TcHandle};
 use requests::mode::XdpMode;
-use requests::request::{Key, Program, Request};
-use std::alloc::{AllocError, AllocFailed, Global};
+use requests::request::{Hook, Key, Program, Request, SetXdp};
+use std::alloc::{AllocError, Global};
 use std::fmt;
 
 // How many bytes the output buffer has where a line does not say, and the most that it may say.
@@ -23,17 +25,14 @@ pub(crate) enum Verb {
 }
 
 impl Verb {
-    fn of(token: &str) -> Option<Verb> {
-        match token {
-            "attach" => Some(Verb::Attach),
-            "replace" => Some(Verb::Replace),
-            "remove" => Some(Verb::Remove),
-            "list" => Some(Verb::List),
-            "clsact" => Some(Verb::Clsact),
-            "xdp" => Some(Verb::Xdp),
-            _ => None,
-        }
-    }
+    const ALL: [Verb; 6] = [
+        Verb::Attach,
+        Verb::Replace,
+        Verb::Remove,
+        Verb::List,
+        Verb::Clsact,
+        Verb::Xdp,
+    ];
 
     fn text(self) -> &'static str {
         match self {
@@ -87,24 +86,21 @@ pub(crate) enum Word {
 }
 
 impl Word {
-    fn of(token: &str) -> Option<Word> {
-        match token {
-            "dev" => Some(Word::Dev),
-            "ingress" => Some(Word::Ingress),
-            "egress" => Some(Word::Egress),
-            "parent" => Some(Word::Parent),
-            "prio" => Some(Word::Prio),
-            "handle" => Some(Word::Handle),
-            "fd" => Some(Word::Fd),
-            "name" => Some(Word::Name),
-            "name-hex" => Some(Word::NameHex),
-            "class" => Some(Word::Class),
-            "mode" => Some(Word::Mode),
-            "expect" => Some(Word::Expect),
-            "buffer" => Some(Word::Buffer),
-            _ => None,
-        }
-    }
+    const ALL: [Word; 13] = [
+        Word::Dev,
+        Word::Ingress,
+        Word::Egress,
+        Word::Parent,
+        Word::Prio,
+        Word::Handle,
+        Word::Fd,
+        Word::Name,
+        Word::NameHex,
+        Word::Class,
+        Word::Mode,
+        Word::Expect,
+        Word::Buffer,
+    ];
 
     fn text(self) -> &'static str {
         match self {
@@ -186,15 +182,30 @@ pub(crate) enum Misread<'a> {
     NoMemory,
 }
 
+// By hand: it prints itself by hand too, where its words share their texts.
 impl From<AllocError> for Misread<'_> {
     fn from(_e: AllocError) -> Self {
         Misread::NoMemory
     }
 }
 
-impl<T: Drop> From<AllocFailed<T>> for Misread<'_> {
-    fn from(_e: AllocFailed<T>) -> Self {
-        Misread::NoMemory
+impl<'a> TryFrom<&'a str> for Verb {
+    type Error = Misread<'a>;
+
+    fn try_from(token: &'a str) -> Result<Verb, Misread<'a>> {
+        let mut all = Verb::ALL.into_iter();
+        all.find(|verb| verb.text() == token)
+            .ok_or(Misread::UnknownVerb(token))
+    }
+}
+
+impl<'a> TryFrom<&'a str> for Word {
+    type Error = Misread<'a>;
+
+    fn try_from(token: &'a str) -> Result<Word, Misread<'a>> {
+        let mut all = Word::ALL.into_iter();
+        all.find(|word| word.text() == token)
+            .ok_or(Misread::UnknownWord(token))
     }
 }
 
@@ -262,57 +273,28 @@ impl fmt::Display for Misread<'_> {
     }
 }
 
-// The value of a hexadecimal digit.
-fn hex_digit(byte: u8) -> Option<u8>
-    ensures { MatchOption result ((d : ℕ) → Digit byte d → ⊥) (λ d. Digit byte d) }
+// A number in digits of this radix, with no sign.
+fn number_in(text: &str, radix: u32) -> Option<u32>
+    requires { (2 ≤ radix) × (radix ≤ 36) }
 {
-    match byte {
-        b'0'..=b'9' => Some(byte - b'0'),
-        b'a'..=b'f' => Some(byte - b'a' + 10),
-        b'A'..=b'F' => Some(byte - b'A' + 10),
-        _ => None,
+    if text.starts_with('+') {
+        return None;
     }
+    u32::from_str_radix(text, radix).ok()
 }
 
-// The byte that two hexadecimal digits write.
-fn hex_pair(pair: &[u8]) -> Option<u8>
-    ensures { IfSome result (λ b. (length pair.now ≡ 2) × Digit (slice_index pair.now 0) (b / 16) × Digit (slice_index pair.now 1) (b % 16)) }
-{
-    let [high, low] = pair else {
-        return None;
-    };
-    let Some(high) = hex_digit(*high) else {
-        return None;
-    };
-    let Some(low) = hex_digit(*low) else {
-        return None;
-    };
-    Some(high * 16 + low)
+fn number(text: &str) -> Option<u32> {
+    number_in(text, 10)
 }
 
 // Half of a handle: hexadecimal digits, of a number below 65536.
-fn hex_half(text: &str) -> Option<u16> {
-    if text.is_empty() {
-        return None;
-    }
-    let mut value = 0u16;
-    for byte in text.bytes() {
-        let digit = hex_digit(byte)?;
-        value = value.checked_mul(16)?.checked_add(u16::from(digit))?;
-    }
-    Some(value)
+fn half_of(text: &str) -> Option<u16> {
+    u16::try_from(number_in(text, 16)?).ok()
 }
 
 fn handle_of(text: &str) -> Option<TcHandle> {
     let (major, minor) = text.split_once(':')?;
-    Some(TcHandle::new(hex_half(major)?, hex_half(minor)?))
-}
-
-fn number(text: &str) -> Option<u32> {
-    if text.starts_with('+') {
-        return None;
-    }
-    text.parse::<u32>().ok()
+    Some(TcHandle::new(half_of(major)?, half_of(minor)?))
 }
 
 fn priority_of(text: &str) -> Option<u16> {
@@ -323,9 +305,10 @@ fn room_of(text: &str) -> Option<usize>
     ensures { IfSome result (λ n. n ≤ 4096) }
 {
     let room = number(text)? as usize;
-    if room > MOST_ROOM { None } else { Some(room) }
+    (room <= MOST_ROOM).then_some(room)
 }
 
+// No search by the modes' own names: a mode prints itself, and its name is a text to compare only on the heap.
 fn mode_of(text: &str) -> Option<XdpMode> {
     match text {
         "default" => Some(XdpMode::Default),
@@ -337,17 +320,11 @@ fn mode_of(text: &str) -> Option<XdpMode> {
 }
 
 // The program of an `fd`: one that is open, or none, which takes the program off.
-#[derive(Clone, Copy)]
-enum Descriptor {
-    Open(u32),
-    Nothing,
-}
-
-fn descriptor_of(text: &str) -> Option<Descriptor> {
+fn descriptor_of(text: &str) -> Option<Option<u32>> {
     if text == "none" {
-        return Some(Descriptor::Nothing);
+        return Some(None);
     }
-    Some(Descriptor::Open(number(text)?))
+    number(text).map(Some)
 }
 
 // A name as the script has it: as text, or in hexadecimal.
@@ -357,25 +334,32 @@ enum Name<'a> {
     Hex(&'a str),
 }
 
-pub(crate) fn hex_bytes<'a>(heap: Global, text: &'a str) -> Result<Vec<u8>, Misread<'a>> {
-    let mut bytes = Vec::new(heap);
-    for pair in text.as_bytes().chunks(2) {
-        let Some(byte) = hex_pair(pair) else {
-            return Err(Misread::Value(Word::NameHex, text));
-        };
-        bytes.push(byte)?;
+// The bytes of a text in hexadecimal, or what is to be said of a text that is none.
+pub(crate) fn hex_bytes<'a>(
+    heap: Global,
+    text: &str,
+    otherwise: Misread<'a>,
+) -> Result<Vec<u8>, Misread<'a>>
+    ensures bytes { IfOk result (λ bytes. decode_of text.now ≡ Ok bytes.items) }
+    ensures refused { IfErr result (λ e. (e ≡ NoMemory) ⊎ IsErr (decode_of text.now)) }
+{
+    // no `map_err`: tried, and through its closure the clause `refused` stayed open
+    match hex::decode(heap, text) {
+        Ok(bytes) => Ok(bytes),
+        Err(FromHexError::OutOfMemory) => Err(Misread::NoMemory),
+        Err(_) => Err(otherwise),
     }
-    Ok(bytes)
 }
 
 // What the words of a line told.
-#[derive(Clone, Copy)]
+#[derive(Clone, Copy, Default)]
 struct Told<'a> {
     interface: Option<u32>,
     parent: Option<TcHandle>,
     priority: Option<u16>,
     handle: Option<TcHandle>,
-    descriptor: Option<Descriptor>,
+    // `fd none` tells that there is no program
+    descriptor: Option<Option<u32>>,
     name: Option<Name<'a>>,
     class: Option<TcHandle>,
     mode: Option<XdpMode>,
@@ -390,40 +374,24 @@ fn fill<'a, T: Copy>(
     token: &'a str,
     value: Option<T>,
 ) -> Result<(), Misread<'a>> {
-    let Some(value) = value else {
-        return Err(Misread::Value(word, token));
-    };
-    if place.is_some() {
+    let value = value.ok_or(Misread::Value(word, token))?;
+    if place.replace(value).is_some() {
         return Err(Misread::Again(word));
     }
-    *place = Some(value);
     Ok(())
 }
 
 impl<'a> Told<'a> {
-    const NOTHING: Told<'static> = Told {
-        interface: None,
-        parent: None,
-        priority: None,
-        handle: None,
-        descriptor: None,
-        name: None,
-        class: None,
-        mode: None,
-        expected: None,
-        room: None,
-    };
-
     // Takes a word with its value.
     fn take(&mut self, word: Word, token: &'a str) -> Result<(), Misread<'a>> {
         match word {
             Word::Dev => fill(&mut self.interface, word, token, number(token)),
             Word::Ingress => {
-                let parent = TcHandle::from(TcAttachType::Ingress);
+                let parent = TcAttachType::Ingress.into();
                 fill(&mut self.parent, word, token, Some(parent))
             }
             Word::Egress => {
-                let parent = TcHandle::from(TcAttachType::Egress);
+                let parent = TcAttachType::Egress.into();
                 fill(&mut self.parent, word, token, Some(parent))
             }
             Word::Parent => fill(&mut self.parent, word, token, handle_of(token)),
@@ -438,23 +406,6 @@ impl<'a> Told<'a> {
             Word::Buffer => fill(&mut self.room, word, token, room_of(token)),
         }
     }
-
-    // Takes a word that stands alone, or gives back the one whose value comes next.
-    fn begin(&mut self, verb: Verb, token: &'a str) -> Result<Option<Word>, Misread<'a>> {
-        let Some(word) = Word::of(token) else {
-            return Err(Misread::UnknownWord(token));
-        };
-        if !verb.takes(word) {
-            return Err(Misread::Foreign(verb, word));
-        }
-        match word {
-            Word::Ingress | Word::Egress => {
-                self.take(word, token)?;
-                Ok(None)
-            }
-            _ => Ok(Some(word)),
-        }
-    }
 }
 
 // A line of the script: what it asks for, and what its words told.
@@ -467,25 +418,21 @@ pub(crate) struct Command<'a> {
 impl<'a> Command<'a> {
     pub(crate) fn parse(line: &'a str) -> Result<Command<'a>, Misread<'a>> {
         let mut tokens = line.split_whitespace();
-        let first = tokens.next().unwrap_or("");
-        let Some(verb) = Verb::of(first) else {
-            return Err(Misread::UnknownVerb(first));
-        };
-        let mut told = Told::NOTHING;
-        let mut open = None;
-        for token in tokens {
-            open = match open {
-                Some(word) => {
-                    told.take(word, token)?;
-                    None
-                }
-                None => told.begin(verb, token)?,
+        let verb = Verb::try_from(tokens.next().unwrap_or(""))?;
+        let mut told = Told::default();
+        // no `for`: a word takes its value from the same tokens
+        while let Some(token) = tokens.next() {
+            let word = Word::try_from(token)?;
+            if !verb.takes(word) {
+                return Err(Misread::Foreign(verb, word));
+            }
+            let value = match word {
+                Word::Ingress | Word::Egress => token,
+                _ => tokens.next().ok_or(Misread::NoValue(word))?,
             };
+            told.take(word, value)?;
         }
-        match open {
-            Some(word) => Err(Misread::NoValue(word)),
-            None => Ok(Command { verb, told }),
-        }
+        Ok(Command { verb, told })
     }
 
     // How many bytes the output buffer is to have.
@@ -497,7 +444,7 @@ impl<'a> Command<'a> {
     pub(crate) fn name(&self, heap: Global) -> Result<Vec<u8>, Misread<'a>> {
         match self.told.name {
             Some(Name::Text(text)) => Ok(Vec::from_slice(heap, text.as_bytes())?),
-            Some(Name::Hex(text)) => hex_bytes(heap, text),
+            Some(Name::Hex(text)) => hex_bytes(heap, text, Misread::Value(Word::NameHex, text)),
             None => Ok(Vec::new(heap)),
         }
     }
@@ -506,50 +453,40 @@ impl<'a> Command<'a> {
     pub(crate) fn request<'n>(&self, name: &'n [u8]) -> Result<Request<'n>, Misread<'a>> {
         let interface = self.need(Word::Dev, self.told.interface)?;
         match self.verb {
-            Verb::Attach => Ok(Request::Attach(self.key()?, self.program(name)?)),
-            Verb::Replace => Ok(Request::Replace(self.key()?, self.program(name)?)),
-            Verb::Remove => Ok(Request::Remove(self.key()?)),
+            Verb::Attach => Ok(Request::Attach(self.key(interface)?, self.program(name)?)),
+            Verb::Replace => Ok(Request::Replace(self.key(interface)?, self.program(name)?)),
+            Verb::Remove => Ok(Request::Remove(self.key(interface)?)),
             Verb::List => {
                 let parent = self.need(Word::Parent, self.told.parent)?;
-                Ok(Request::List { interface, parent })
+                Ok(Request::List(Hook { interface, parent }))
             }
             Verb::Clsact => Ok(Request::AddClsact { interface }),
-            Verb::Xdp => {
-                let descriptor = match self.need(Word::Fd, self.told.descriptor)? {
-                    Descriptor::Open(descriptor) => Some(descriptor),
-                    Descriptor::Nothing => None,
-                };
-                Ok(Request::SetXdp {
-                    interface,
-                    descriptor,
-                    expected: self.told.expected,
-                    mode: self.told.mode.unwrap_or(XdpMode::Default),
-                })
-            }
+            Verb::Xdp => Ok(Request::SetXdp(SetXdp {
+                interface,
+                descriptor: self.need(Word::Fd, self.told.descriptor)?,
+                expected: self.told.expected,
+                mode: self.told.mode.unwrap_or(XdpMode::Default),
+            })),
         }
     }
 
     fn need<T: Copy>(&self, word: Word, value: Option<T>) -> Result<T, Misread<'a>> {
-        match value {
-            Some(value) => Ok(value),
-            None => Err(Misread::Missing(self.verb, word)),
-        }
+        value.ok_or(Misread::Missing(self.verb, word))
     }
 
     // Which filter; a new one may leave its priority and its handle to the other end.
-    fn key(&self) -> Result<Key, Misread<'a>> {
-        let interface = self.need(Word::Dev, self.told.interface)?;
+    fn key(&self, interface: u32) -> Result<Key, Misread<'a>> {
         let parent = self.need(Word::Parent, self.told.parent)?;
-        if let Verb::Attach = self.verb {
-            return Ok(Key {
-                interface,
-                parent,
-                priority: self.told.priority.unwrap_or(0),
-                handle: self.told.handle.unwrap_or(TcHandle::AUTO_ASSIGN),
-            });
-        }
-        let priority = self.need(Word::Prio, self.told.priority)?;
-        let handle = self.need(Word::Handle, self.told.handle)?;
+        let (priority, handle) = match self.verb {
+            Verb::Attach => (
+                self.told.priority.unwrap_or(0),
+                self.told.handle.unwrap_or(TcHandle::AUTO_ASSIGN),
+            ),
+            _ => (
+                self.need(Word::Prio, self.told.priority)?,
+                self.need(Word::Handle, self.told.handle)?,
+            ),
+        };
         Ok(Key {
             interface,
             parent,
@@ -560,13 +497,13 @@ impl<'a> Command<'a> {
 
     fn program<'n>(&self, name: &'n [u8]) -> Result<Program<'n>, Misread<'a>> {
         self.need(Word::Name, self.told.name)?;
-        match self.need(Word::Fd, self.told.descriptor)? {
-            Descriptor::Open(descriptor) => Ok(Program {
-                descriptor,
-                name,
-                class: self.told.class,
-            }),
-            Descriptor::Nothing => Err(Misread::NoProgram(self.verb)),
-        }
+        let descriptor = self
+            .need(Word::Fd, self.told.descriptor)?
+            .ok_or(Misread::NoProgram(self.verb))?;
+        Ok(Program {
+            descriptor,
+            name,
+            class: self.told.class,
+        })
     }
 }

@@ -1,122 +1,93 @@
-use crate::dissect::{Label, Meaning, Part};
+ghost use Rattle.std.specs.Iterator.{IsFinite};
+
+use crate::dissect::{Depth, Label, Meaning, Part};
 use records::nlmsghdr::Nlmsghdr;
 use records::tcmsg::Tcmsg;
-use requests::fault::ArgumentFault;
-use requests::handle::TcHandle;
-use requests::mode::XdpMode;
-use requests::numbers::RTM_GETTFILTER;
-use requests::request::{Key, Program, Request};
+use requests::handle::{TcAttachType, TcHandle};
+use requests::numbers::{
+    ETH_P_ALL, NLM_F_ACK, NLM_F_APPEND, NLM_F_CREATE, NLM_F_DUMP, NLM_F_ECHO, NLM_F_EXCL,
+    NLM_F_MULTI, NLM_F_REPLACE, NLM_F_REQUEST, RTM_DELTFILTER, RTM_GETTFILTER, RTM_NEWQDISC,
+    RTM_NEWTFILTER, RTM_SETLINK, TC_H_CLSACT, TCA_BPF_FLAG_ACT_DIRECT, XDP_FLAGS_DRV_MODE,
+    XDP_FLAGS_HW_MODE, XDP_FLAGS_REPLACE, XDP_FLAGS_SKB_MODE, XDP_FLAGS_UPDATE_IF_NOEXIST,
+};
+use requests::request::{Hook, Key, Program, Request, SetXdp};
 use std::{fmt, io};
 
 // Texts above this many bytes are shown by their first ones.
 const LONG: usize = 32;
 
-// A bit, and what it says where it is set.
-#[derive(Clone, Copy)]
-struct Flag {
-    bit: u32,
-    says: &'static str,
-}
+// Bits, and what they say where they are set.
+type Flag = (u32, &'static str);
 
+// The two tables share their first lines: each is a whole reading of the flags, from the lowest bit on.
 const NEW_FLAGS: [Flag; 8] = [
-    Flag {
-        bit: 0x001,
-        says: "request",
-    },
-    Flag {
-        bit: 0x002,
-        says: "multipart",
-    },
-    Flag {
-        bit: 0x004,
-        says: "acknowledge",
-    },
-    Flag {
-        bit: 0x008,
-        says: "echo",
-    },
-    Flag {
-        bit: 0x100,
-        says: "replace",
-    },
-    Flag {
-        bit: 0x200,
-        says: "exclusive",
-    },
-    Flag {
-        bit: 0x400,
-        says: "create",
-    },
-    Flag {
-        bit: 0x800,
-        says: "append",
-    },
+    (NLM_F_REQUEST as u32, "request"),
+    (NLM_F_MULTI as u32, "multipart"),
+    (NLM_F_ACK as u32, "acknowledge"),
+    (NLM_F_ECHO as u32, "echo"),
+    (NLM_F_REPLACE as u32, "replace"),
+    (NLM_F_EXCL as u32, "exclusive"),
+    (NLM_F_CREATE as u32, "create"),
+    (NLM_F_APPEND as u32, "append"),
 ];
 
 const GET_FLAGS: [Flag; 5] = [
-    Flag {
-        bit: 0x001,
-        says: "request",
-    },
-    Flag {
-        bit: 0x002,
-        says: "multipart",
-    },
-    Flag {
-        bit: 0x004,
-        says: "acknowledge",
-    },
-    Flag {
-        bit: 0x008,
-        says: "echo",
-    },
-    Flag {
-        bit: 0x300,
-        says: "dump",
-    },
+    (NLM_F_REQUEST as u32, "request"),
+    (NLM_F_MULTI as u32, "multipart"),
+    (NLM_F_ACK as u32, "acknowledge"),
+    (NLM_F_ECHO as u32, "echo"),
+    (NLM_F_DUMP as u32, "dump"),
 ];
 
 const XDP_FLAGS: [Flag; 5] = [
-    Flag {
-        bit: 1,
-        says: "only where there is no program yet",
-    },
-    Flag {
-        bit: 2,
-        says: "skb",
-    },
-    Flag {
-        bit: 4,
-        says: "driver",
-    },
-    Flag {
-        bit: 8,
-        says: "hardware",
-    },
-    Flag {
-        bit: 16,
-        says: "only in place of the expected program",
-    },
+    (
+        XDP_FLAGS_UPDATE_IF_NOEXIST,
+        "only where there is no program yet",
+    ),
+    (XDP_FLAGS_SKB_MODE, "skb"),
+    (XDP_FLAGS_DRV_MODE, "driver"),
+    (XDP_FLAGS_HW_MODE, "hardware"),
+    (XDP_FLAGS_REPLACE, "only in place of the expected program"),
 ];
 
-const FILTER_FLAGS: [Flag; 1] = [Flag {
-    bit: 1,
-    says: "direct action",
-}];
+const FILTER_FLAGS: [Flag; 1] = [(TCA_BPF_FLAG_ACT_DIRECT, "direct action")];
+
+// Writes items, with `first` before the first of them and `between` before each other.
+fn write_items<W: fmt::Write, I: Iterator + Drop>(
+    f: &mut fmt::Formatter<W>,
+    first: &str,
+    between: &str,
+    mut items: I,
+) -> fmt::Result
+where
+    I::Item: fmt::Display + Drop,
+    requires can { I.can_next items }
+    requires ends { IsFinite (I.remaining items) }
+{
+    if let Some(item) = items.next() {
+        write!(f, "{first}{item}")?;
+        for item in items {
+            write!(f, "{between}{item}")?;
+        }
+    }
+    Ok(())
+}
 
 // Flags as a number, and what the set ones of a table say.
 fn write_flags<W: fmt::Write>(f: &mut fmt::Formatter<W>, bits: u32, table: &[Flag]) -> fmt::Result {
     write!(f, "flags 0x{bits:04x}")?;
-    let mut first = true;
-    for flag in table.iter() {
-        if bits & flag.bit == flag.bit {
-            let before = if first { ": " } else { ", " };
-            let says = flag.says;
-            write!(f, "{before}{says}")?;
-            first = false;
-        }
+    let set = table.iter().filter(|(mask, _)| bits & *mask == *mask);
+    write_items(f, ": ", ", ", set.map(|(_, says)| *says))
+}
+
+// A byte as two hexadecimal digits.
+#[derive(Clone, Copy)]
+struct HexByte(u8);
+
+impl fmt::Display for HexByte {
+    fn fmt<W: fmt::Write>(&self, f: &mut fmt::Formatter<W>) -> fmt::Result {
+        write!(f, "{:02x}", self.0)
     }
-    Ok(())
 }
 
 // Bytes in hexadecimal, with spaces between.
@@ -125,11 +96,7 @@ struct Hex<'a>(&'a [u8]);
 
 impl fmt::Display for Hex<'_> {
     fn fmt<W: fmt::Write>(&self, f: &mut fmt::Formatter<W>) -> fmt::Result {
-        for (index, byte) in self.0.iter().enumerate() {
-            let before = if index == 0 { "" } else { " " };
-            write!(f, "{before}{:02x}", *byte)?;
-        }
-        Ok(())
+        write_items(f, "", " ", self.0.iter().map(|byte| HexByte(*byte)))
     }
 }
 
@@ -139,7 +106,7 @@ pub(crate) struct Readable<'a>(pub(crate) &'a [u8]);
 
 impl fmt::Display for Readable<'_> {
     fn fmt<W: fmt::Write>(&self, f: &mut fmt::Formatter<W>) -> fmt::Result {
-        for byte in self.0.iter() {
+        for byte in self.0 {
             match *byte {
                 0x20..=0x7e => f.write_char(char::from(*byte))?,
                 other => write!(f, "\\x{other:02x}")?,
@@ -170,42 +137,30 @@ pub(crate) struct Echo<'a>(pub(crate) &'a str);
 
 impl fmt::Display for Echo<'_> {
     fn fmt<W: fmt::Write>(&self, f: &mut fmt::Formatter<W>) -> fmt::Result {
-        for (index, word) in self.0.split_whitespace().enumerate() {
-            let before = if index == 0 { "" } else { " " };
-            write!(f, "{before}{}", Brief(word.as_bytes()))?;
-        }
-        Ok(())
+        let words = self.0.split_whitespace();
+        write_items(f, "", " ", words.map(|word| Brief(word.as_bytes())))
     }
 }
 
-// A handle as `tc` writes it.
-#[derive(Clone, Copy)]
-pub(crate) struct Handle(pub(crate) TcHandle);
-
-impl fmt::Display for Handle {
-    fn fmt<W: fmt::Write>(&self, f: &mut fmt::Formatter<W>) -> fmt::Result {
-        let major = self.0.major();
-        let minor = self.0.minor();
-        write!(f, "{major:x}:{minor:x}")
-    }
-}
-
-fn parent_name(parent: u32) -> &'static str {
-    match parent {
-        0xFFFF_FFF1 => " (clsact)",
-        0xFFFF_FFF2 => " (ingress)",
-        0xFFFF_FFF3 => " (egress)",
-        _ => "",
+fn parent_name(parent: TcHandle) -> &'static str {
+    if parent == TcHandle::from(TC_H_CLSACT) {
+        " (clsact)"
+    } else if parent == TcHandle::from(TcAttachType::Ingress) {
+        " (ingress)"
+    } else if parent == TcHandle::from(TcAttachType::Egress) {
+        " (egress)"
+    } else {
+        ""
     }
 }
 
 fn message_name(kind: u16) -> &'static str {
     match kind {
-        19 => "set link",
-        36 => "new queueing discipline",
-        44 => "new filter",
-        45 => "delete filter",
-        46 => "get filters",
+        RTM_SETLINK => "set link",
+        RTM_NEWQDISC => "new queueing discipline",
+        RTM_NEWTFILTER => "new filter",
+        RTM_DELTFILTER => "delete filter",
+        RTM_GETTFILTER => "get filters",
         _ => "unknown",
     }
 }
@@ -213,10 +168,9 @@ fn message_name(kind: u16) -> &'static str {
 // The flags of a message, some of which mean something else where it asks for a list.
 fn write_message_flags<W: fmt::Write>(f: &mut fmt::Formatter<W>, header: &Nlmsghdr) -> fmt::Result {
     let bits = u32::from(header.flags);
-    if header.kind == RTM_GETTFILTER {
-        write_flags(f, bits, &GET_FLAGS)
-    } else {
-        write_flags(f, bits, &NEW_FLAGS)
+    match header.kind {
+        RTM_GETTFILTER => write_flags(f, bits, &GET_FLAGS),
+        _ => write_flags(f, bits, &NEW_FLAGS),
     }
 }
 
@@ -237,9 +191,9 @@ fn write_message<W: fmt::Write>(f: &mut fmt::Formatter<W>, header: &Nlmsghdr) ->
 
 fn write_traffic<W: fmt::Write>(f: &mut fmt::Formatter<W>, header: &Tcmsg) -> fmt::Result {
     let interface = header.ifindex;
-    let handle = Handle(TcHandle::from(header.handle));
-    let parent = Handle(TcHandle::from(header.parent));
-    let name = parent_name(header.parent);
+    let handle = TcHandle::from(header.handle);
+    let parent = TcHandle::from(header.parent);
+    let name = parent_name(parent);
     write!(
         f,
         "interface {interface}, handle {handle}, parent {parent}{name}"
@@ -247,12 +201,13 @@ fn write_traffic<W: fmt::Write>(f: &mut fmt::Formatter<W>, header: &Tcmsg) -> fm
 }
 
 fn write_traffic_info<W: fmt::Write>(f: &mut fmt::Formatter<W>, header: &Tcmsg) -> fmt::Result {
-    let priority = header.info / 65536;
-    let protocol = header.info % 65536;
-    let name = if protocol == 0x0300 { " (all)" } else { "" };
+    let priority = header.info >> 16;
+    let protocol = header.info & 0xffff;
+    let name = if protocol == ETH_P_ALL { " (all)" } else { "" };
     write!(f, "priority {priority}, protocol 0x{protocol:04x}{name}")
 }
 
+// Not by `Brief`, which puts the length behind the bytes and has no quotes.
 fn write_text<W: fmt::Write>(
     f: &mut fmt::Formatter<W>,
     subject: &str,
@@ -291,22 +246,18 @@ fn write_descriptor<W: fmt::Write>(
 impl fmt::Display for Meaning<'_> {
     fn fmt<W: fmt::Write>(&self, f: &mut fmt::Formatter<W>) -> fmt::Result {
         match self {
-            Meaning::Nothing => Ok(()),
             Meaning::Message(header) => write_message(f, header),
             Meaning::MessageFlags(header) => write_message_flags(f, header),
             Meaning::Traffic(header) => write_traffic(f, header),
             Meaning::TrafficInfo(header) => write_traffic_info(f, header),
-            Meaning::Interface(header) => {
-                let interface = header.index;
-                write!(f, "interface {interface}")
-            }
+            Meaning::Interface(header) => write!(f, "interface {}", header.index),
             Meaning::Nested { subject, len } => write!(f, "{subject}, nested, {len} bytes"),
             Meaning::Text {
                 subject,
                 text,
                 padding,
             } => write_text(f, subject, text, *padding),
-            Meaning::Class(class) => write!(f, "class {}", Handle(*class)),
+            Meaning::Class(class) => write!(f, "class {class}"),
             Meaning::Descriptor { subject, bits } => write_descriptor(f, subject, *bits),
             Meaning::FilterFlags(bits) => write_flags(f, *bits, &FILTER_FLAGS),
             Meaning::XdpFlags(bits) => write_flags(f, *bits, &XDP_FLAGS),
@@ -326,107 +277,88 @@ impl fmt::Display for Label {
     }
 }
 
-// A row: the label, up to 16 bytes, and a line of what they say.
-fn show_row(rt: &HostRuntime, label: &str, bytes: &[u8], meaning: &Meaning<'_>) -> io::Result<()> {
+// A row: the label, up to 16 bytes, and perhaps a line of what they say.
+fn show_row(
+    rt: &HostRuntime,
+    label: &str,
+    bytes: &[u8],
+    meaning: Option<Meaning<'_>>,
+) -> io::Result<()> {
     let hex = Hex(bytes).to_string(rt.alloc())?;
     match meaning {
-        Meaning::Nothing => println!(rt; "    {label:<18}{hex}"),
-        _ => println!(rt; "    {label:<18}{hex:<47}   {meaning}"),
+        Some(meaning) => println!(rt; "    {label:<18}{hex:<47}   {meaning}"),
+        None => println!(rt; "    {label:<18}{hex}"),
     }
 }
 
 pub(crate) fn show_part(rt: &HostRuntime, part: &Part<'_>) -> io::Result<()> {
-    let indent = if part.depth == 0 { "" } else { "  " };
+    let indent = match part.depth {
+        Depth::Outer => "",
+        Depth::Inner => "  ",
+    };
     let label = format!(in rt.alloc(); "{indent}{}", part.label)?;
     let mut rows = part.bytes.chunks(16);
     let first = rows.next().unwrap_or(&[]);
-    show_row(rt, label.as_str(), first, &part.meaning)?;
-    let second = rows.next().unwrap_or(&[]);
-    if !second.is_empty() || !matches!(part.further, Meaning::Nothing) {
-        show_row(rt, "", second, &part.further)?;
+    show_row(rt, label.as_str(), first, Some(part.meaning))?;
+    if part.further.is_some() {
+        show_row(rt, "", rows.next().unwrap_or(&[]), part.further)?;
     }
     for row in rows {
-        show_row(rt, "", row, &Meaning::Nothing)?;
+        show_row(rt, "", row, None)?;
     }
     Ok(())
 }
 
-// Why a request is refused, with the number of the check that failed.
-#[derive(Clone, Copy)]
-pub(crate) struct Refusal(pub(crate) ArgumentFault);
-
-impl fmt::Display for Refusal {
-    fn fmt<W: fmt::Write>(&self, f: &mut fmt::Formatter<W>) -> fmt::Result {
-        match self.0 {
-            ArgumentFault::Interface(interface) => {
-                write!(
-                    f,
-                    "number 1: interface {interface} is not from 1 to 2147483647"
-                )
-            }
-            ArgumentFault::Descriptor(descriptor) => {
-                write!(f, "number 2: descriptor {descriptor} is above 2147483647")
-            }
-            ArgumentFault::ZeroInName => write!(f, "number 3: the name has a zero byte"),
-            ArgumentFault::LongName(len) => {
-                write!(f, "number 4: the name has {len} bytes, 256 are the most")
-            }
-            ArgumentFault::ShortBuffer { size, expected } => {
-                write!(
-                    f,
-                    "number 8: the buffer has {size} bytes, {expected} are needed"
-                )
-            }
-        }
-    }
-}
-
-fn mode_name(mode: XdpMode) -> &'static str {
-    match mode {
-        XdpMode::Default => "default",
-        XdpMode::Skb => "skb",
-        XdpMode::Driver => "driver",
-        XdpMode::Hardware => "hardware",
-    }
-}
-
 fn write_key<W: fmt::Write>(f: &mut fmt::Formatter<W>, key: &Key) -> fmt::Result {
-    let interface = key.interface;
-    let parent = Handle(key.parent);
-    let priority = key.priority;
-    let handle = Handle(key.handle);
+    let Key {
+        interface,
+        parent,
+        priority,
+        handle,
+    } = *key;
     write!(
         f,
         "dev {interface} parent {parent} prio {priority} handle {handle}"
     )
 }
 
+// A value behind its word, where there is one.
+fn write_option<W: fmt::Write, T: fmt::Display + Drop>(
+    f: &mut fmt::Formatter<W>,
+    word: &str,
+    value: Option<T>,
+) -> fmt::Result {
+    if let Some(value) = value {
+        write!(f, "{word}{value}")?;
+    }
+    Ok(())
+}
+
 fn write_program<W: fmt::Write>(f: &mut fmt::Formatter<W>, program: &Program<'_>) -> fmt::Result {
     let descriptor = program.descriptor;
     write!(f, " fd {descriptor} name {}", Brief(program.name))?;
-    match program.class {
-        Some(class) => write!(f, " class {}", Handle(class)),
-        None => Ok(()),
-    }
+    write_option(f, " class ", program.class)
 }
 
-fn write_xdp<W: fmt::Write>(
+fn write_filter<W: fmt::Write>(
     f: &mut fmt::Formatter<W>,
-    interface: u32,
-    descriptor: Option<u32>,
-    expected: Option<u32>,
-    mode: XdpMode,
+    verb: &str,
+    key: &Key,
+    program: &Program<'_>,
 ) -> fmt::Result {
-    write!(f, "xdp dev {interface} fd ")?;
-    match descriptor {
+    f.write_str(verb)?;
+    write_key(f, key)?;
+    write_program(f, program)
+}
+
+fn write_xdp<W: fmt::Write>(f: &mut fmt::Formatter<W>, set: &SetXdp) -> fmt::Result {
+    write!(f, "xdp dev {} fd ", set.interface)?;
+    match set.descriptor {
         Some(descriptor) => write!(f, "{descriptor}")?,
         None => write!(f, "none")?,
     }
-    write!(f, " mode {}", mode_name(mode))?;
-    match expected {
-        Some(expected) => write!(f, " expect {expected}"),
-        None => Ok(()),
-    }
+    write!(f, " mode {}", set.mode)?;
+    write_option(f, " expect ", set.expected)
 }
 
 // A request in the words of the script.
@@ -436,29 +368,16 @@ pub(crate) struct Asked<'a>(pub(crate) Request<'a>);
 impl fmt::Display for Asked<'_> {
     fn fmt<W: fmt::Write>(&self, f: &mut fmt::Formatter<W>) -> fmt::Result {
         match self.0 {
-            Request::SetXdp {
-                interface,
-                descriptor,
-                expected,
-                mode,
-            } => { write_xdp(f, interface, descriptor, expected, mode) }
+            Request::SetXdp(set) => write_xdp(f, &set),
             Request::AddClsact { interface } => write!(f, "clsact dev {interface}"),
-            Request::Attach(key, program) => {
-                write!(f, "attach ")?;
-                write_key(f, &key)?;
-                write_program(f, &program)
-            }
-            Request::Replace(key, program) => {
-                write!(f, "replace ")?;
-                write_key(f, &key)?;
-                write_program(f, &program)
-            }
+            Request::Attach(key, program) => write_filter(f, "attach ", &key, &program),
+            Request::Replace(key, program) => write_filter(f, "replace ", &key, &program),
             Request::Remove(key) => {
                 write!(f, "remove ")?;
                 write_key(f, &key)
             }
-            Request::List { interface, parent } => {
-                write!(f, "list dev {interface} parent {}", Handle(parent))
+            Request::List(Hook { interface, parent }) => {
+                write!(f, "list dev {interface} parent {parent}")
             }
         }
     }

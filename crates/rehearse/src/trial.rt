@@ -1,10 +1,9 @@
 ghost use Rattle.std.specs.Prelude.{◌≡◌, ℕ, ◌<◌, true, length, slice_index_or};
-ghost use Rattle.requests.specs.Asks.{asks, key_of, program_of};
+ghost use Rattle.requests.specs.Asks.{asks};
 
 use crate::dissect::dissect;
-use crate::show::{Asked, Refusal, show_part};
-use requests::handle::TcHandle;
-use requests::request::{Key, Program, Request};
+use crate::show::{Asked, show_part};
+use requests::request::Request;
 use std::io;
 
 // What the buffer is filled with, so that a byte that was written shows.
@@ -25,83 +24,14 @@ fn untouched(bytes: &[u8]) -> bool
     ensures yes { result ≡ true → (k : ℕ) → k < length «bytes».now → slice_index_or «bytes».now k 0 ≡ 0xa5 }
     ensures no { ((k : ℕ) → k < length «bytes».now → slice_index_or «bytes».now k 0 ≡ 0xa5) → result ≡ true }
 {
-    for byte in bytes {
-        if *byte != PATTERN {
-            return false;
-        }
-    }
-    true
-}
-
-fn same_key(a: &Key, b: &Key) -> bool
-    ensures { result ≡ true → key_of a.now ≡ key_of b.now }
-{
-    a.interface == b.interface
-        && a.parent == b.parent
-        && a.priority == b.priority
-        && a.handle == b.handle
-}
-
-fn same_name(a: &[u8], b: &[u8]) -> bool
-    ensures { result ≡ true → a.now ≡ b.now }
-{
-    a == b
-}
-
-fn same_class(a: Option<TcHandle>, b: Option<TcHandle>) -> bool
-    ensures { result ≡ true → a ≡ b }
-{
-    a == b
-}
-
-fn same_fd(a: Option<u32>, b: Option<u32>) -> bool
-    ensures { result ≡ true → a ≡ b }
-{
-    a == b
-}
-
-fn same_program(a: &Program<'_>, b: &Program<'_>) -> bool
-    ensures { result ≡ true → program_of a.now ≡ program_of b.now }
-{
-    a.descriptor == b.descriptor && same_name(a.name, b.name) && same_class(a.class, b.class)
+    bytes.iter().all(|byte| *byte == PATTERN)
 }
 
 // Whether two requests agree in each field.
 fn same_request(a: Request<'_>, b: Request<'_>) -> bool
     ensures { result ≡ true → asks a.entry ≡ asks b.entry }
 {
-    match (a, b) {
-        (
-            Request::SetXdp {
-                interface,
-                descriptor,
-                expected,
-                mode,
-            },
-            Request::SetXdp {
-                interface: i,
-                descriptor: d,
-                expected: e,
-                mode: m,
-            },
-        ) => { interface == i && same_fd(descriptor, d) && same_fd(expected, e) && mode == m }
-        (Request::AddClsact { interface }, Request::AddClsact { interface: i }) => interface == i,
-        (Request::Attach(key, program), Request::Attach(k, p)) => {
-            same_key(&key, &k) && same_program(&program, &p)
-        }
-        (Request::Replace(key, program), Request::Replace(k, p)) => {
-            same_key(&key, &k) && same_program(&program, &p)
-        }
-        (Request::Remove(key), Request::Remove(k)) => same_key(&key, &k),
-        (
-            Request::List { interface, parent },
-            Request::List {
-                interface: i,
-                parent: p,
-            },
-        ) => { interface == i && parent == p }
-        _ => false,
-    }
+    a == b
 }
 
 // Reads the bytes back, and says whether they give the request that was asked.
@@ -139,7 +69,7 @@ fn show_written(
         println!(rt; "  written: {len} bytes; the {more} behind them are {state}")?;
     }
     let parts = dissect(rt.alloc(), bytes)?;
-    for part in parts.iter() {
+    for part in &parts {
         show_part(rt, part)?;
     }
     show_read_back(rt, asked, bytes)
@@ -160,7 +90,7 @@ pub(crate) fn try_out(rt: &HostRuntime, asked: Request<'_>, room: usize) -> io::
             } else {
                 "BUFFER ALTERED"
             };
-            println!(rt; "  refused, {}; {state}", Refusal(fault))?;
+            println!(rt; "  refused, {fault}; {state}")?;
             Ok(Outcome::Refused)
         }
     }

@@ -9,7 +9,7 @@ use Rattle.requests.specs.declared.fault.ArgumentFault.{ArgumentFault}
 use Rattle.requests.specs.Table.{optional}
 use Rattle.requests.specs.Bytes.{attribute_bytes, row_bytes, optional_length}
 use Rattle.requests.specs.Builders.{link_bytes}
-use Rattle.requests.specs.Refusals.{checked, room_fault, unless, written, buffer}
+use Rattle.requests.specs.Refusals.{checked, room_fault, unless, written, buffer, Written}
 use Rattle.requests.specs.Writing.{Begun, Puts}
 use Rattle.requests.proofs.Putting.{puts_both, puts_same}
 
@@ -26,23 +26,30 @@ module _ (fault : Option ArgumentFault) (ok : fault ≡ None) (bs out last : Lis
   whole : Begun last bs n out
   whole = p [] out (record { len = refl; is = refl })
 
-  pub done_result : n ≤ length out → ◌≡◌ {A = Result ℕ ArgumentFault} (Ok n) (written fault bs (length out))
-  done_result h =
+  pub done : n ≤ length out → Written fault bs (Ok n) out last
+  done h =
       let l = whole.len in
       let t : room_fault (length out) (length bs) ≡ None = grind (arith, nat_tests) in
-      ap Ok (sym l) ∙ sym (ap (λ (f : Option ArgumentFault). unless f (length bs)) t) ∙ sym (ap (λ (f : Option ArgumentFault). written f bs (length out)) ok)
+      record {
+        result = ap Ok (sym l) ∙ sym (ap (λ (f : Option ArgumentFault). unless f (length bs)) t) ∙ sym (ap (λ (f : Option ArgumentFault). written f bs (length out)) ok);
+        after = whole.is;
+      }
 
-  pub done_after : last ≡ bs ++ drop n out
-  done_after = whole.is
+-- the same once the writer is gone
+pub ends : (fault : Option ArgumentFault) (bs out last end : List ℕ) (n k : ℕ) → end ≡ last → k ≡ n → Written fault bs (Ok n) out last → Written fault bs (Ok k) out end
+ends fault bs out last end n k e l p =
+    record { result = ap Ok l ∙ p.result; after = e ∙ p.after ∙ ap (λ (m : ℕ). bs ++ drop m out) (sym l) }
 
 -- there was too little room, and r is the answer
 pub short_exit : (fault : Option ArgumentFault) → fault ≡ None → (r : Result ℕ ArgumentFault) (bs out : List ℕ) (k : ℕ) (e d : ArgumentFault) → r ≡ Err d → d ≡ e → length bs ≡ k →
-    Err e ≡ checked (room_fault (length out) k) → (r ≡ written fault bs (length out)) × (out ≡ buffer r bs out)
-short_exit fault ok r bs out k e d q s l c = (
-  q ∙ ap Err s ∙ at (room_fault (length out) k) c ∙ ap (λ (z : ℕ). unless (room_fault (length out) z) z) (sym l)
-      ∙ sym (ap (λ (f : Option ArgumentFault). written f bs (length out)) ok),
-  sym (ap (λ (z : Result ℕ ArgumentFault). buffer z bs out) q),
-)
+    Err e ≡ checked (room_fault (length out) k) → Written fault bs r out out
+short_exit fault ok r bs out k e d q s l c =
+    record {
+      result =
+          q ∙ ap Err s ∙ at (room_fault (length out) k) c ∙ ap (λ (z : ℕ). unless (room_fault (length out) z) z) (sym l)
+          ∙ sym (ap (λ (f : Option ArgumentFault). written f bs (length out)) ok);
+      after = sym (ap (λ (x : Result ℕ ArgumentFault). buffer x bs out) q);
+    }
   where
     at : (f : Option ArgumentFault) → Err e ≡ checked f → ◌≡◌ {A = Result ℕ ArgumentFault} (Err e) (unless f k)
     at None h = let z : ◌≡◌ {A = ℕ} 0 1 = cc in absurd (omega arith)

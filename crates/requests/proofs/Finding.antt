@@ -1,6 +1,10 @@
 -- Which request bytes can be. Assumes nothing.
-use Rattle.std.proofs.Common.{◌≡◌, ℕ, ◌-◌, ◌<◌, ◌≤◌, List, ◌++◌, length, take, drop, Some, None, Ok, Err, Option, sym, ap, ◌∙◌, subst, arith, MatchOption}
+use Rattle.std.proofs.Common.{◌≡◌, ℕ, ◌*◌, ◌/◌, ◌%◌, bit_and, ◌<◌, ◌≤◌, Bool, true, false, Decides, List, length, take, drop, Some, None, Ok, Err, Option, Result, sym, refl, ap, ◌∙◌, subst, arith, MatchOption, IfSome}
 use Rattle.std.proofs.lemmas.List.{take_at}
+use Rattle.std.proofs.lemmas.Nat.Bits.{and_high}
+use Rattle.std.specs.Bool.{then_some}
+use Rattle.std.specs.Option.{option_map}
+use Rattle.std.specs.Result.{result_ok}
 use Rattle.std.proofs.lemmas.Bool.Decides.{nat_tests}
 use Rattle.requests.specs.declared.fault.ArgumentFault.{ArgumentFault}
 use Rattle.records.specs.Words.{le2}
@@ -9,7 +13,7 @@ use Rattle.requests.specs.Asks.{Ask, asks, set_xdp, add_clsact, attach, replace,
 use Rattle.requests.specs.Table.{type_of, flags_of, filter_header}
 use Rattle.requests.specs.Bytes.{request_bytes}
 use Rattle.requests.specs.Builders.{tc_bytes}
-use Rattle.requests.specs.Refusals.{argument_fault, room_fault, unless, written}
+use Rattle.requests.specs.Refusals.{argument_fault, room_fault, unless, written, buffer}
 use Rattle.requests.specs.Back.{Fits, Writes}
 use Rattle.requests.specs.Places.{Short, placed_xdp, placed}
 use Rattle.requests.proofs.Standing.{name_short, program_name, class_short, request_length_lem, answered}
@@ -101,7 +105,7 @@ room bs h = let t : room_fault 336 (length bs) ≡ None = grind (arith, nat_test
 
 -- y was picked out and written again: w is the answer, last the buffer
 module _ (b : List ℕ) (y : Ask) (only : (x : Ask) → Writes x b → y ≡ x) where
-  pub not_refused : (e : ArgumentFault) → Err e ≡ written (argument_fault y) (request_bytes y) 336 → (x : Ask) → Writes x b → ⊥
+  not_refused : (e : ArgumentFault) → Err e ≡ written (argument_fault y) (request_bytes y) 336 → (x : Ask) → Writes x b → ⊥
   not_refused e w x h =
       let s : argument_fault y ≡ None = ap argument_fault (only x h) ∙ h.sound in
       let q : written (argument_fault y) (request_bytes y) 336 ≡ Ok (length (request_bytes y)) =
@@ -109,15 +113,35 @@ module _ (b : List ℕ) (y : Ask) (only : (x : Ask) → Writes x b → y ≡ x) 
       let z : ◌≡◌ {A = ℕ} 0 1 = cc in
       omega arith
 
-  module _ (n : ℕ) (out last : List ℕ) (w : Ok n ≡ written (argument_fault y) (request_bytes y) 336) (l : last ≡ request_bytes y ++ drop n out) where
-    again : take (n - 0) last ≡ request_bytes y
+  pub not_none : (r : Result ℕ ArgumentFault) → ◌≡◌ {A = Option ℕ} None (result_ok r) → r ≡ written (argument_fault y) (request_bytes y) 336 → (x : Ask) → Writes x b → ⊥
+  not_none (Err e) p w = not_refused e w
+  not_none (Ok n) p w = absurd (let z : ◌≡◌ {A = ℕ} 0 1 = cc in omega arith)
+
+  module _ (r : Result ℕ ArgumentFault) (n : ℕ) (o : Some n ≡ result_ok r) (out last : List ℕ) (w : r ≡ written (argument_fault y) (request_bytes y) 336) (l : last ≡ buffer r (request_bytes y) out) where
+    was : r ≡ Ok n
+    was = at r o
+      where
+        at : (q : Result ℕ ArgumentFault) → Some n ≡ result_ok q → q ≡ Ok n
+        at (Ok m) e = cc
+        at (Err f) e = absurd (let z : ◌≡◌ {A = ℕ} 0 1 = cc in omega arith)
+
+    again : take n last ≡ request_bytes y
     again =
-        let a = answered (argument_fault y) (request_bytes y) 336 n w in
-        let k : n - 0 ≡ n = omega arith in
-        ap (λ (m : ℕ). take m last) k ∙ ap (take n) l ∙ take_at (request_bytes y) (drop n out) n (sym a.1)
+        let a = answered (argument_fault y) (request_bytes y) 336 n (sym was ∙ w) in
+        ap (take n) (l ∙ ap (λ (q : Result ℕ ArgumentFault). buffer q (request_bytes y) out) was) ∙ take_at (request_bytes y) (drop n out) n (sym a.1)
 
-    pub is_written : Fits y → b ≡ take (n - 0) last → Writes y b
-    is_written f e = record { fits = f; sound = (answered (argument_fault y) (request_bytes y) 336 n w).0; bytes = e ∙ again }
+    is_written : Fits y → b ≡ take n last → Writes y b
+    is_written f e = record { fits = f; sound = (answered (argument_fault y) (request_bytes y) 336 n (sym was ∙ w)).0; bytes = e ∙ again }
 
-    pub not_other : (b ≡ take (n - 0) last → ⊥) → (x : Ask) → Writes x b → ⊥
+    not_other : (b ≡ take n last → ⊥) → (x : Ask) → Writes x b → ⊥
     not_other d x h = d (h.bytes ∙ sym (ap request_bytes (only x h)) ∙ sym again)
+
+    -- it is kept if its bytes are these, as e says
+    pub kept : (q : Request) → asks q ≡ y → Fits y → (e : Bool) → Decides e (b ≡ take n last) →
+        IfSome (then_some e q) (λ p. Writes (asks p) b) × ((x : Ask) → Writes x b → option_map asks (then_some e q) ≡ Some x)
+    kept q a f true d = (subst (λ (z : Ask). Writes z b) (sym a) (is_written f (d.0 refl)), λ x w. ap Some (a ∙ only x w))
+    kept q a f false d = (tt, λ x w. absurd (not_other (λ p. let z : false ≡ true = d.1 p in absurd (let t : ◌≡◌ {A = ℕ} 0 1 = cc in omega arith)) x w))
+
+-- the three flags of a mode are bits 1 to 3
+pub mode_bits : (n : ℕ) → bit_and n 14 ≡ n / 2 % 8 * 2
+mode_bits n = and_high n 3 1

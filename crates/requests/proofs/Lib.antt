@@ -1,5 +1,4 @@
 pub mod Putting
-pub mod Naming
 pub mod Built
 pub mod Rows
 pub mod Messages

@@ -12,7 +12,7 @@ use Rattle.requests.specs.Asks.{Key, Program, Ask, set_xdp, add_clsact, attach, 
 use Rattle.requests.specs.Table.{Item, value, nest, optional, type_of, flags_of, family_of, items_of, filter_header, program_items}
 use Rattle.requests.specs.Bytes.{attribute_bytes, row_bytes, attribute_of, message_bytes, request_message, request_bytes, request_length, optional_length}
 use Rattle.requests.specs.Builders.{tc_bytes}
-use Rattle.requests.specs.Refusals.{argument_fault, program_fault, interface_fault, descriptor_fault, name_fault, first, room_fault, unless, written, buffer}
+use Rattle.requests.specs.Refusals.{argument_fault, program_fault, interface_fault, descriptor_fault, name_fault, first, room_fault, unless, written, Written}
 use Rattle.requests.specs.Stands.{plain, nested, Are, none as no_items, more as more_items, Stands}
 use Rattle.requests.specs.declared.mode.XdpMode.{XdpMode}
 use Rattle.requests.proofs.Filters.{options_length, filter_length}
@@ -166,8 +166,7 @@ stands (list i p) e = request_stands (list i p) tt (omega (arith, request_length
 
 -- the answer, the buffer and the layout after a request is written
 abbrev pub Wrote : Ask → Result ℕ ArgumentFault → List ℕ → List ℕ → Type 0
-Wrote x r out last =
-    (r ≡ written (argument_fault x) (request_bytes x) (length out)) × (last ≡ buffer r (request_bytes x) out) × IfOk r (λ n. Stands (take n last) x)
+Wrote x r out last = Written (argument_fault x) (request_bytes x) r out last × IfOk r (λ n. Stands (take n last) x)
 
 pub answered : (f : Option ArgumentFault) (bs : List ℕ) (k n : ℕ) → Ok n ≡ written f bs k → (f ≡ None) × (n ≡ length bs)
 answered (Some x) bs k n e = let z : ◌≡◌ {A = ℕ} 0 1 = cc in absurd (omega arith)
@@ -177,16 +176,12 @@ answered None bs k n e = (refl, at (room_fault k (length bs)) e)
     at None q = cc
     at (Some x) q = let z : ◌≡◌ {A = ℕ} 0 1 = cc in absurd (omega arith)
 
-pub wrote : (x : Ask) (r : Result ℕ ArgumentFault) (out last : List ℕ) → r ≡ written (argument_fault x) (request_bytes x) (length out) → last ≡ buffer r (request_bytes x) out → Wrote x r out last
-wrote x (Err f) out last p q = (p, q, tt)
-wrote x (Ok n) out last p q =
-    let a = answered (argument_fault x) (request_bytes x) (length out) n p in
-    let t : take n last ≡ request_bytes x = ap (take n) q ∙ take_at (request_bytes x) (drop n out) n (sym a.1) in
-    (p, q, subst (λ (b : List ℕ). Stands b x) (sym t) (stands x a.0))
+pub wrote : (x : Ask) (r : Result ℕ ArgumentFault) (out last : List ℕ) → Written (argument_fault x) (request_bytes x) r out last → Wrote x r out last
+wrote x (Err f) out last w = (w, tt)
+wrote x (Ok n) out last w =
+    let a = answered (argument_fault x) (request_bytes x) (length out) n w.result in
+    let t : take n last ≡ request_bytes x = ap (take n) w.after ∙ take_at (request_bytes x) (drop n out) n (sym a.1) in
+    (w, subst (λ (b : List ℕ). Stands b x) (sym t) (stands x a.0))
 
 pub wrote_as : (y x : Ask) (r : Result ℕ ArgumentFault) (out last : List ℕ) → y ≡ x → Wrote x r out last → Wrote y r out last
 wrote_as y x r out last e w = subst (λ (z : Ask). Wrote z r out last) (sym e) w
-
--- how long a request is, or why it is refused
-pub sized_as : (y x : Ask) (r : Result ℕ ArgumentFault) → y ≡ x → r ≡ unless (argument_fault x) (request_length x) → r ≡ unless (argument_fault y) (request_length y)
-sized_as y x r e p = subst (λ (z : Ask). r ≡ unless (argument_fault z) (request_length z)) (sym e) p

@@ -1,16 +1,15 @@
 -- The message that tells of a filter: how long its parts are, and that its pieces are it. Assumes nothing.
-use Rattle.std.proofs.Common.{◌≡◌, ℕ, ◌+◌, ◌≤◌, List, [], ◌∷◌, ◌++◌, length, replicate, Some, None, Ok, Option, Result, sym, refl, ap, ◌∙◌, arith}
+use Rattle.std.proofs.Common.{◌≡◌, ℕ, ◌+◌, ◌≤◌, List, [], ◌∷◌, ◌++◌, length, replicate, Some, None, Option, sym, refl, ap, ◌∙◌, arith}
 use Rattle.std.proofs.lemmas.List.{length-append, append-nil}
 use Rattle.records.specs.Words.{bytes2}
 use Rattle.records.specs.Align.{padded, fill}
 use Rattle.records.specs.Fields.{tcmsg_bytes}
 use Rattle.records.specs.declared.tcmsg.Tcmsg.{Tcmsg}
-use Rattle.requests.specs.declared.fault.ArgumentFault.{ArgumentFault}
 use Rattle.requests.specs.Asks.{Key}
 use Rattle.requests.specs.Table.{filter_header}
 use Rattle.requests.specs.Bytes.{attribute_bytes, row_bytes}
 use Rattle.requests.specs.FilterMessages.{closed, name_row, name_options, filter_row, filter_message, filter_bytes, optional_name_fault, filter_fault}
-use Rattle.requests.specs.Refusals.{name_fault, interface_fault, unless}
+use Rattle.requests.specs.Refusals.{name_fault, interface_fault}
 use Rattle.requests.specs.Writing.{Puts}
 use Rattle.requests.proofs.Rows.{attribute_length, row_fours}
 use Rattle.requests.proofs.Standing.{first_none, name_short}
@@ -71,10 +70,6 @@ told_puts o0 o1 o2 o3 i1 i2 i3 flags len key header kind name same e p1 p2 p3 =
     (puts_same o0 o1 _ _ 0 i1 (ap (λ (h : Tcmsg). header_bytes len 44 flags ++ tcmsg_bytes h) (sym same)) p1) (puts_both o1 o2 o3 _ _ i1 i2 i3 p2 p3)
 
 -- what the checks leave
-pub granted : {X : Type 0} (f : Option ArgumentFault) (x y : X) → ◌≡◌ {A = Result X ArgumentFault} (Ok y) (unless f x) → (f ≡ None) × (x ≡ y)
-granted None x y e = (refl, cc)
-granted (Some f) x y e = let z : ◌≡◌ {A = ℕ} 0 1 = cc in absurd (omega arith)
-
 pub told_texts : (key : Key) (kind : List ℕ) (name : Option (List ℕ)) → filter_fault key kind name ≡ None → (length kind ≤ 256) × (optional_name_fault name ≡ None)
 told_texts key kind name e =
     let p = first_none (name_fault kind) (optional_name_fault name) (first_none (interface_fault key.interface) _ e).1 in

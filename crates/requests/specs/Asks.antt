@@ -37,9 +37,9 @@ abbrev pub program_of : CodeProgram → Program
 program_of p = record { descriptor = p.descriptor; name = p.name.now; class = option_map bits_of p.class }
 
 abbrev pub asks : Request → Ask
-asks (SetXdp i d e m) = set_xdp i d e m
+asks (SetXdp x) = set_xdp x.interface x.descriptor x.expected x.mode
 asks (AddClsact i) = add_clsact i
 asks (Attach k p) = attach (key_of k) (program_of p)
 asks (Replace k p) = replace (key_of k) (program_of p)
 asks (Remove k) = remove (key_of k)
-asks (ListFilters i p) = list i (bits_of p)
+asks (ListFilters h) = list h.interface (bits_of h.parent)

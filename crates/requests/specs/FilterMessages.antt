@@ -1,12 +1,29 @@
 -- The message that tells of a filter, as a kernel sends it: in a listing, or as the echo of a request.
 use Rattle.std.specs.Prelude.{ℕ, List, [], ◌∷◌, ◌++◌, Some, None, Option}
+use Rattle.std.specs.Option.{option_map, option_copied}
 use Rattle.records.specs.Fields.{tcmsg_bytes}
 use Rattle.records.specs.Layouts.{Attribute, Message}
 use Rattle.requests.specs.declared.fault.ArgumentFault.{ArgumentFault}
-use Rattle.requests.specs.Asks.{Key}
+use Rattle.requests.specs.declared.filter.Filter.{Filter as CodeFilter}
+use Rattle.requests.specs.declared.name.Name.{Name}
+use Rattle.requests.specs.Asks.{Key, key_of}
 use Rattle.requests.specs.Table.{filter_header}
 use Rattle.requests.specs.Bytes.{row_bytes, message_bytes, sequence}
 use Rattle.requests.specs.Refusals.{first, interface_fault, name_fault}
+
+-- a filter: its key, its kind, and its name where it has one
+pub record Filter : Type 0 where
+  pub key : Key
+  pub kind : List ℕ
+  pub name : Option (List ℕ)
+
+-- what the code's type means
+abbrev pub filter_of : CodeFilter → Filter
+filter_of f = record { key = key_of f.key; kind = f.kind.now; name = option_copied f.name }
+
+-- the text of a checked name, where there is one
+abbrev pub texts_of : Option Name → Option (List ℕ)
+texts_of = option_map (λ n. n.bytes.now)
 
 -- a text and its final zero
 abbrev pub closed : List ℕ → List ℕ

@@ -1,5 +1,6 @@
 -- Handles in traffic control: 32 bits, written major:minor.
-use Rattle.std.specs.Prelude.{ℕ, ◌+◌, ◌*◌, ◌/◌, ◌%◌}
+use Rattle.std.specs.Prelude.{ℕ, ◌+◌, ◌*◌, ◌/◌, ◌%◌, false, List, ◌++◌, codes}
+use Rattle.std.specs.Fmt.{digits}
 use Rattle.requests.specs.declared.handle.TcHandle.{TcHandle}
 use Rattle.requests.specs.declared.handle.TcAttachType.{TcAttachType}
 use Rattle.requests.specs.declared.handle.TcAttachType.TheVariants.{Ingress, Egress}
@@ -19,3 +20,7 @@ joined major minor = major / 65536 * 65536 + minor % 65536
 abbrev pub parent_of : TcAttachType → ℕ
 parent_of Ingress = 0xFFFFFFF2
 parent_of Egress = 0xFFFFFFF3
+
+-- a handle as text: both halves in hexadecimal, in small letters, with a colon between
+abbrev pub handle_text : TcHandle → List ℕ
+handle_text h = digits 16 false h.major ++ (codes ":" ++ digits 16 false h.minor)

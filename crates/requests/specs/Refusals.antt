@@ -1,5 +1,5 @@
 -- When a request is not written, and what a buffer holds afterwards.
-use Rattle.std.specs.Prelude.{ℕ, Bool, false, cond, ◌||◌, List, [], ◌∷◌, ◌++◌, length, drop, Some, None, Ok, Err, Option, Result, ◌==◌, nat_lt}
+use Rattle.std.specs.Prelude.{◌≡◌, ℕ, Bool, false, cond, ◌||◌, List, [], ◌∷◌, ◌++◌, length, drop, Some, None, Ok, Err, Option, Result, ◌==◌, nat_lt}
 use Rattle.requests.specs.declared.fault.ArgumentFault.{ArgumentFault}
 use Rattle.requests.specs.declared.fault.ArgumentFault.TheVariants.{Interface, Descriptor, ZeroInName, LongName, ShortBuffer}
 use Rattle.requests.specs.Asks.{Key, Program, Ask, set_xdp, add_clsact, attach, replace, remove, list}
@@ -37,9 +37,12 @@ name_fault n = cond (has_zero n) (Some ZeroInName) (cond (nat_lt 256 (length n))
 abbrev pub program_fault : Key → Program → Option ArgumentFault
 program_fault k p = first (interface_fault k.interface) (first (descriptor_fault p.descriptor) (name_fault p.name))
 
+abbrev pub xdp_fault : ℕ → Option ℕ → Option ℕ → Option ArgumentFault
+xdp_fault i d e = first (interface_fault i) (first (optional_descriptor_fault d) (optional_descriptor_fault e))
+
 -- the first check that the arguments of a request fail: 1, 2, 3, 4
 unfoldable pub argument_fault : Ask → Option ArgumentFault
-argument_fault (set_xdp i d e m) = first (interface_fault i) (first (optional_descriptor_fault d) (optional_descriptor_fault e))
+argument_fault (set_xdp i d e m) = xdp_fault i d e
 argument_fault (add_clsact i) = interface_fault i
 argument_fault (attach k p) = program_fault k p
 argument_fault (replace k p) = program_fault k p
@@ -64,10 +67,12 @@ unless (Some f) x = Err f
 abbrev pub written : Option ArgumentFault → List ℕ → ℕ → Result ℕ ArgumentFault
 written fault bytes n = unless (first fault (room_fault n (length bytes))) (length bytes)
 
-abbrev pub fitted : List ℕ → ℕ → Result ℕ ArgumentFault
-fitted bytes n = written None bytes n
-
 -- what the buffer holds then: the bytes at its front and the rest as it was, or all as it was
 abbrev pub buffer : Result ℕ ArgumentFault → List ℕ → List ℕ → List ℕ
 buffer (Ok n) bytes out = bytes ++ drop n out
 buffer (Err f) bytes out = out
+
+-- the answer of a function that writes such bytes at the front of a buffer, and what the buffer holds after it
+pub record Written (fault : Option ArgumentFault) (bytes : List ℕ) (answer : Result ℕ ArgumentFault) (old new : List ℕ) : Type 0 where
+  pub result : answer ≡ written fault bytes (length old)
+  pub after : new ≡ buffer answer bytes old

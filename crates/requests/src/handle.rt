@@ -1,17 +1,18 @@
-ghost use Rattle.std.specs.Prelude.{◌≡◌, ◌+◌, ◌*◌, ◌/◌, ◌%◌};
-ghost use Rattle.requests.specs.Handles.{bits_of, handle_of, joined, parent_of};
+ghost use Rattle.std.specs.Prelude.{◌≡◌, Some};
+ghost use Rattle.requests.specs.Handles.{bits_of, handle_of, joined, parent_of, handle_text};
 
-use crate::numbers::{TC_H_CLSACT, TC_H_MIN_EGRESS, TC_H_MIN_INGRESS};
+use records::numbers::{TC_H_CLSACT, TC_H_MIN_EGRESS, TC_H_MIN_INGRESS};
+use std::fmt;
 
 // The upper 16 bits of `major` and the lower 16 bits of `minor`.
 pub fn tc_handler_make(major: u32, minor: u32) -> u32
     ensures { result ≡ joined major minor }
 {
-    major / 65536 * 65536 + minor % 65536
+    major >> 16 << 16 | minor & 0xFFFF
 }
 
 // A handle of traffic control, written `major:minor`: of a filter, a class or a queueing discipline.
-#[derive(Clone, Copy, PartialEq, Eq, Default, Debug)]
+#[derive(Clone, Copy, PartialEq, Eq, Hash, Default, Debug)]
 pub struct TcHandle {
     major: u16,
     minor: u16,
@@ -40,8 +41,8 @@ impl TcHandle {
         ensures back { bits_of result ≡ bits }
     {
         TcHandle {
-            major: (bits / 65536) as u16,
-            minor: (bits % 65536) as u16,
+            major: (bits >> 16) as u16,
+            minor: (bits & 0xFFFF) as u16,
         }
     }
 
@@ -50,7 +51,7 @@ impl TcHandle {
         ensures back { handle_of result ≡ self }
     {
         let TcHandle { major, minor } = self;
-        u32::from(major) * 65536 + u32::from(minor)
+        u32::from(major) << 16 | u32::from(minor)
     }
 
     pub fn major(self) -> u16
@@ -63,6 +64,16 @@ impl TcHandle {
         ensures { result ≡ self.minor }
     {
         self.minor
+    }
+}
+
+// As `tc` writes it: both halves in hexadecimal.
+impl fmt::Display for TcHandle {
+    ghost output = { λ h. Some (handle_text h) };
+
+    fn fmt<W: fmt::Write>(&self, f: &mut fmt::Formatter<W>) -> fmt::Result {
+        let TcHandle { major, minor } = *self;
+        write!(f, "{major:x}:{minor:x}")
     }
 }
 
@@ -83,7 +94,7 @@ impl From<u32> for TcHandle {
 }
 
 // Where clsact takes filters: for packets that come in, or for packets that go out.
-#[derive(Clone, Copy, PartialEq, Eq, Debug)]
+#[derive(Clone, Copy, PartialEq, Eq, Hash, Debug)]
 pub enum TcAttachType {
     Ingress,
     Egress,

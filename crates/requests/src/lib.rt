@@ -8,11 +8,12 @@ pub mod handle;
 pub mod link;
 pub mod mode;
 pub mod name;
-pub mod numbers;
 pub mod optional;
 mod pick;
-mod put;
 pub mod read;
 pub mod request;
 pub mod tc;
 pub mod write;
+mod writer;
+
+pub use records::numbers;

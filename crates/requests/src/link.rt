@@ -1,22 +1,21 @@
-ghost use Rattle.std.specs.Prelude.{◌≡◌, ◌+◌, ◌≤◌, length};
+ghost use Rattle.std.specs.Prelude.{◌≡◌, ◌+◌, ◌≤◌, length, None};
 ghost use Rattle.std.proofs.Common.{of_z};
 ghost use Rattle.std.specs.Int.{w32};
 ghost use Rattle.std.specs.Option.{option_map};
 ghost use Rattle.requests.specs.Builders.{link_bytes};
 ghost use Rattle.requests.specs.Bytes.{optional_length};
-ghost use Rattle.requests.specs.Refusals.{fitted, buffer};
+ghost use Rattle.requests.specs.Refusals.{Written};
 ghost use Rattle.requests.specs.Writing.{Puts};
 
 use crate::fault::ArgumentFault;
-use crate::numbers::{
+use crate::optional::Optional;
+use crate::writer::{Writer, check_room, optional_len};
+use records::ifinfomsg::Ifinfomsg;
+use records::numbers::{
     IFLA_XDP_EXPECTED_FD, IFLA_XDP_FD, IFLA_XDP_FLAGS, IFLA_XDP_NESTED, RTM_SETLINK,
 };
-use crate::optional::Optional;
-use crate::put::{check_room, optional_len, put_headers, put_optional, put_record, put_word};
-use records::ifinfomsg::Ifinfomsg;
-use records::nlattr::Nlattr;
 
-// A request about a network interface. It starts with a family header alone; the step `xdp` adds the program.
+// A request about a network interface. It starts with a family header alone; the step `xdp` moves it into one with a program.
 #[derive(Drop)]
 pub struct Link<X> {
     family_header: Ifinfomsg,
@@ -47,8 +46,7 @@ impl Link<()> {
 impl<E: Optional<i32>> Link<Xdp<E>> {
     // Writes the request at the front of a buffer and says how long it is. A buffer that is too short is left as it was.
     pub fn write(&self, flags: u16, out: &mut [u8]) -> Result<usize, ArgumentFault>
-        ensures result { result ≡ fitted (link_bytes flags self.now.family_header self.now.xdp.fd self.now.xdp.flags (E.value self.now.xdp.expected_fd)) (length out.old) }
-        ensures after { out.new ≡ buffer result (link_bytes flags self.now.family_header self.now.xdp.fd self.now.xdp.flags (E.value self.now.xdp.expected_fd)) out.old }
+        ensures { Written None (link_bytes flags self.now.family_header self.now.xdp.fd self.now.xdp.flags (E.value self.now.xdp.expected_fd)) result out.old out.new }
     {
         self.xdp.write(flags, &self.family_header, out)
     }
@@ -95,10 +93,7 @@ impl<E: Optional<i32>> Xdp<E> {
         ensures word { result ≡ option_map (of_z w32) (E.value self.now.expected_fd) }
         ensures len { optional_length result ≡ optional_length (E.value self.now.expected_fd) }
     {
-        match self.expected_fd.as_ref() {
-            Some(fd) => Some(fd.cast_unsigned()),
-            None => None,
-        }
+        self.expected_fd.as_ref().map(|fd| fd.cast_unsigned())
     }
 
     fn write(
@@ -107,8 +102,7 @@ impl<E: Optional<i32>> Xdp<E> {
         family_header: &Ifinfomsg,
         out: &mut [u8],
     ) -> Result<usize, ArgumentFault>
-        ensures result { result ≡ fitted (link_bytes flags family_header.now self.now.fd self.now.flags (E.value self.now.expected_fd)) (length out.old) }
-        ensures after { out.new ≡ buffer result (link_bytes flags family_header.now self.now.fd self.now.flags (E.value self.now.expected_fd)) out.old }
+        ensures { Written None (link_bytes flags family_header.now self.now.fd self.now.flags (E.value self.now.expected_fd)) result out.old out.new }
     {
         let nested = self.nested_len();
         check_room(out.len(), 32 + usize::from(nested))?;
@@ -128,20 +122,17 @@ impl<E: Optional<i32>> Xdp<E> {
         ensures end { result ≡ 32 + nested }
         ensures puts { Puts out.old out.new 0 result (link_bytes flags family_header.now self.now.fd self.now.flags (E.value self.now.expected_fd)) }
     {
-        let header = Nlattr {
-            len: nested,
-            kind: IFLA_XDP_NESTED,
-        };
-        let at = put_headers(
+        let mut writer = Writer::begin(
             out,
             32 + u32::from(nested),
             RTM_SETLINK,
             flags,
             family_header,
         );
-        let at = put_record(out, at, &header);
-        let at = put_word(out, at, IFLA_XDP_FD, self.fd.cast_unsigned());
-        let at = put_word(out, at, IFLA_XDP_FLAGS, self.flags);
-        put_optional(out, at, IFLA_XDP_EXPECTED_FD, self.expected_word())
+        writer.open_attribute(IFLA_XDP_NESTED, nested);
+        writer.put_word(IFLA_XDP_FD, self.fd.cast_unsigned());
+        writer.put_word(IFLA_XDP_FLAGS, self.flags);
+        writer.put_optional(IFLA_XDP_EXPECTED_FD, self.expected_word());
+        writer.len()
     }
 }

@@ -1,8 +1,11 @@
-ghost use Rattle.std.specs.Prelude.{◌≡◌};
-ghost use Rattle.requests.specs.Modes.{mode_flags};
+ghost use Rattle.std.specs.Prelude.{◌≡◌, Some};
+ghost use Rattle.requests.specs.Modes.{mode_flags, mode_text};
+
+use records::numbers::{XDP_FLAGS_DRV_MODE, XDP_FLAGS_HW_MODE, XDP_FLAGS_SKB_MODE};
+use std::fmt;
 
 // How an XDP program is run: as the driver allows, by the network stack, by the driver, or by the card.
-#[derive(Clone, Copy, PartialEq, Eq, Debug)]
+#[derive(Clone, Copy, PartialEq, Eq, Hash, Debug)]
 pub enum XdpMode {
     Default,
     Skb,
@@ -17,9 +20,22 @@ impl XdpMode {
     {
         match self {
             XdpMode::Default => 0,
-            XdpMode::Skb => 2,
-            XdpMode::Driver => 4,
-            XdpMode::Hardware => 8,
+            XdpMode::Skb => XDP_FLAGS_SKB_MODE,
+            XdpMode::Driver => XDP_FLAGS_DRV_MODE,
+            XdpMode::Hardware => XDP_FLAGS_HW_MODE,
         }
+    }
+}
+
+impl fmt::Display for XdpMode {
+    ghost output = { λ m. Some (mode_text m) };
+
+    fn fmt<W: fmt::Write>(&self, f: &mut fmt::Formatter<W>) -> fmt::Result {
+        f.write_str(match self {
+            XdpMode::Default => "default",
+            XdpMode::Skb => "skb",
+            XdpMode::Driver => "driver",
+            XdpMode::Hardware => "hardware",
+        })
     }
 }

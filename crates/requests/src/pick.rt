@@ -8,24 +8,27 @@ ghost use Rattle.requests.specs.Places.{header_key, base_of, class_of, placed_pr
 
 use crate::handle::TcHandle;
 use crate::mode::XdpMode;
-use crate::request::{Key, Program, Request};
+use crate::request::{Key, Program, Request, SetXdp};
 use records::ifinfomsg::Ifinfomsg;
+use records::numbers::{
+    TCA_BPF_CLASSID, XDP_FLAGS_DRV_MODE, XDP_FLAGS_HW_MODE, XDP_FLAGS_SKB_MODE,
+};
 use records::record::read;
 use records::tcmsg::Tcmsg;
 
-// The 16 and the 32 bits at a place.
-fn half(bytes: &[u8], at: usize) -> u16
-    requires { at + 2 ≤ length «bytes».now }
-    ensures { result ≡ le2 «bytes».now at }
+// The 16 and the 32 bits at a place; one function for both would be no plainer than these two lines each.
+fn half(bytes: &[u8], at: usize) -> Option<u16>
+    ensures { MatchOption result (length «bytes».now < at + 2) (λ h. (at + 2 ≤ length «bytes».now) × (h ≡ le2 «bytes».now at)) }
 {
-    u16::from_le_bytes([bytes[at], bytes[at + 1]])
+    let half = bytes.get(at..)?.first_chunk()?;
+    Some(u16::from_le_bytes(*half))
 }
 
-fn word(bytes: &[u8], at: usize) -> u32
-    requires { at + 4 ≤ length «bytes».now }
-    ensures { result ≡ le4 «bytes».now at }
+fn word(bytes: &[u8], at: usize) -> Option<u32>
+    ensures { MatchOption result (length «bytes».now < at + 4) (λ w. (at + 4 ≤ length «bytes».now) × (w ≡ le4 «bytes».now at)) }
 {
-    u32::from_le_bytes([bytes[at], bytes[at + 1], bytes[at + 2], bytes[at + 3]])
+    let word = bytes.get(at..)?.first_chunk()?;
+    Some(u32::from_le_bytes(*word))
 }
 
 // The filter that a family header names.
@@ -36,23 +39,20 @@ pub(crate) fn key_of(header: &Tcmsg) -> Key
     Key {
         interface: header.ifindex.cast_unsigned(),
         parent: TcHandle::from(header.parent),
-        priority: (header.info / 65536) as u16,
+        priority: (header.info >> 16) as u16,
         handle: TcHandle::from(header.handle),
     }
 }
 
 // Where the options' descriptor stands, and the class before it.
-fn class_of(bytes: &[u8]) -> (usize, Option<TcHandle>)
-    requires { 56 ≤ length «bytes».now }
-    ensures base { result.0 ≡ base_of «bytes».now }
-    ensures class { option_map bits_of result.1 ≡ class_of «bytes».now }
-    ensures low { result.0 ≤ 56 }
-    ensures fits { ClassFits (option_map bits_of result.1) }
+fn class_of(bytes: &[u8]) -> Option<(usize, Option<TcHandle>)>
+    ensures { MatchOption result (length «bytes».now < 56) (λ p. (p.0 ≡ base_of «bytes».now) × (option_map bits_of p.1 ≡ class_of «bytes».now) × (p.0 ≤ 56) × ClassFits (option_map bits_of p.1)) }
 {
-    if half(bytes, 50) == 3 {
-        (56, Some(TcHandle::from(word(bytes, 52))))
+    if half(bytes, 50)? == TCA_BPF_CLASSID {
+        let class = word(bytes, 52)?;
+        Some((56, Some(TcHandle::from(class))))
     } else {
-        (48, None)
+        Some((48, None))
     }
 }
 
@@ -60,68 +60,56 @@ fn class_of(bytes: &[u8]) -> (usize, Option<TcHandle>)
 pub(crate) fn pick_program(bytes: &[u8]) -> Option<Program<'_>>
     ensures { MatchOption result (Short «bytes».now) (λ p. (program_of p ≡ placed_program «bytes».now) × ClassFits (program_of p).class) }
 {
-    if bytes.len() < 72 {
-        return None;
-    }
-    let (base, class) = class_of(bytes);
-    let len = usize::from(half(bytes, base + 8));
-    if len < 5 || bytes.len() + 5 < base + 12 + len {
-        return None;
-    }
+    let (base, class) = class_of(bytes)?;
+    let descriptor = word(bytes, base + 4)?;
+    let len = usize::from(half(bytes, base + 8)?).checked_sub(5)?;
     let start = base + 12;
-    let end = start + (len - 5);
+    let name = bytes.get(start..start + len)?;
     Some(Program {
-        descriptor: word(bytes, base + 4),
-        name: &bytes[start..end],
+        descriptor,
+        name,
         class,
     })
 }
 
+// Three of the flags hold the mode.
+#[tactic(auto, using(crate::proofs::Finding::mode_bits))]
 fn mode_of(flags: u32) -> XdpMode
     ensures { result ≡ mode_of flags }
 {
-    match flags % 16 / 2 {
-        1 => XdpMode::Skb,
-        2 => XdpMode::Driver,
-        4 => XdpMode::Hardware,
+    match flags & (XDP_FLAGS_SKB_MODE | XDP_FLAGS_DRV_MODE | XDP_FLAGS_HW_MODE) {
+        XDP_FLAGS_SKB_MODE => XdpMode::Skb,
+        XDP_FLAGS_DRV_MODE => XdpMode::Driver,
+        XDP_FLAGS_HW_MODE => XdpMode::Hardware,
         _ => XdpMode::Default,
     }
 }
 
+// All bits set stand for no descriptor.
 fn descriptor_of(word: u32) -> Option<u32>
     ensures { result ≡ descriptor_of word }
 {
-    if word == 4_294_967_295 {
-        None
-    } else {
-        Some(word)
-    }
+    (word != u32::MAX).then_some(word)
 }
 
+// The last attribute, which is left out where nothing is expected.
 fn expected_of(bytes: &[u8]) -> Option<u32>
     ensures { result ≡ expected_of «bytes».now }
 {
-    if bytes.len() < 60 {
-        None
-    } else {
-        Some(word(bytes, 56))
-    }
+    word(bytes, 56)
 }
 
 // The request to set an interface's XDP program.
 pub(crate) fn pick_set_xdp(bytes: &[u8]) -> Option<Request<'_>>
     ensures { MatchOption result (length «bytes».now < 52) (λ q. (asks q ≡ placed_xdp «bytes».now) × Fits (asks q)) }
 {
-    if bytes.len() < 52 {
-        return None;
-    }
-    let Some((header, _)) = read::<Ifinfomsg>(bytes, 16) else {
-        return None;
-    };
-    Some(Request::SetXdp {
+    let (header, _) = read::<Ifinfomsg>(bytes, 16)?;
+    let descriptor = descriptor_of(word(bytes, 40)?);
+    let mode = mode_of(word(bytes, 48)?);
+    Some(Request::SetXdp(SetXdp {
         interface: header.index.cast_unsigned(),
-        descriptor: descriptor_of(word(bytes, 40)),
+        descriptor,
         expected: expected_of(bytes),
-        mode: mode_of(word(bytes, 48)),
-    })
+        mode,
+    }))
 }

@@ -1,43 +1,33 @@
-ghost use Rattle.std.specs.Prelude.{◌≡◌, ℕ, List, IfSome, Some, MatchBool, MatchOption, ◌≢◌};
+ghost use Rattle.std.specs.Prelude.{◌≡◌, IfSome, Some, MatchOption, ◌≢◌};
 ghost use Rattle.std.specs.Option.{option_map};
 ghost use Rattle.records.specs.Words.{le2};
 ghost use Rattle.requests.specs.Asks.{Ask, asks};
 ghost use Rattle.requests.specs.Back.{Fits, Writes};
 ghost use Rattle.requests.specs.Places.{placed};
 
-use crate::numbers::{
-    REQUEST_ACK_ECHO_EXCL_CREATE, RTM_DELTFILTER, RTM_GETTFILTER, RTM_NEWQDISC, RTM_NEWTFILTER,
-    RTM_SETLINK,
-};
 use crate::pick::{key_of, pick_program, pick_set_xdp};
 use crate::request::Request;
 use records::nlmsghdr::Nlmsghdr;
+use records::numbers::{
+    REQUEST_ACK_ECHO_EXCL_CREATE, RTM_DELTFILTER, RTM_GETTFILTER, RTM_NEWQDISC, RTM_NEWTFILTER,
+    RTM_SETLINK,
+};
 use records::record::read;
 use records::tcmsg::Tcmsg;
-
-fn same(a: &[u8], b: &[u8]) -> bool
-    ensures { MatchBool result (a.now ≡ b.now) (a.now ≢ b.now) }
-{
-    a == b
-}
 
 // A request about filters, by its type, its flags and its family header.
 fn pick_traffic(kind: u16, flags: u16, bytes: &[u8]) -> Option<Request<'_>>
     requires { kind ≢ 19 }
     ensures { MatchOption result ((x : Ask) → Writes x «bytes».now → kind ≢ le2 «bytes».now 4) (λ q. (asks q ≡ placed kind flags «bytes».now) × Fits (asks q)) }
 {
-    let Some((header, _)) = read::<Tcmsg>(bytes, 16) else {
-        return None;
-    };
+    let (header, _) = read::<Tcmsg>(bytes, 16)?;
     let key = key_of(&header);
     match kind {
         RTM_NEWQDISC => Some(Request::AddClsact {
             interface: key.interface,
         }),
         RTM_NEWTFILTER => {
-            let Some(program) = pick_program(bytes) else {
-                return None;
-            };
+            let program = pick_program(bytes)?;
             if flags == REQUEST_ACK_ECHO_EXCL_CREATE {
                 Some(Request::Attach(key, program))
             } else {
@@ -45,10 +35,7 @@ fn pick_traffic(kind: u16, flags: u16, bytes: &[u8]) -> Option<Request<'_>>
             }
         }
         RTM_DELTFILTER => Some(Request::Remove(key)),
-        RTM_GETTFILTER => Some(Request::List {
-            interface: key.interface,
-            parent: key.parent,
-        }),
+        RTM_GETTFILTER => Some(Request::List(key.hook())),
         _ => None,
     }
 }
@@ -57,9 +44,7 @@ fn pick_traffic(kind: u16, flags: u16, bytes: &[u8]) -> Option<Request<'_>>
 fn pick(bytes: &[u8]) -> Option<Request<'_>>
     ensures { MatchOption result ((x : Ask) → Writes x «bytes».now → ⊥) (λ q. ((x : Ask) → Writes x «bytes».now → asks q ≡ x) × Fits (asks q)) }
 {
-    let Some((header, _)) = read::<Nlmsghdr>(bytes, 0) else {
-        return None;
-    };
+    let (header, _) = read::<Nlmsghdr>(bytes, 0)?;
     if header.kind == RTM_SETLINK {
         pick_set_xdp(bytes)
     } else {
@@ -73,17 +58,9 @@ impl<'a> Request<'a> {
         ensures some { IfSome result (λ q. Writes (asks q) «bytes».now) }
         ensures each { (x : Ask) → Writes x «bytes».now → option_map asks result ≡ Some x }
     {
-        let Some(request) = pick(bytes) else {
-            return None;
-        };
+        let request = pick(bytes)?;
         let mut again = [0u8; 336];
-        let Ok(n) = request.write(&mut again) else {
-            return None;
-        };
-        if same(bytes, &again[0..n]) {
-            Some(request)
-        } else {
-            None
-        }
+        let n = request.write(&mut again).ok()?;
+        (bytes == &again[..n]).then_some(request)
     }
 }

@@ -1,15 +1,15 @@
-ghost use Rattle.std.specs.Prelude.{◌≡◌, [], length};
+ghost use Rattle.std.specs.Prelude.{◌≡◌, [], length, None};
 ghost use Rattle.requests.specs.Table.{clsact_items};
 ghost use Rattle.requests.specs.Builders.{tc_bytes};
 ghost use Rattle.requests.specs.Operations.{operation_type, operation_items, operation_fault};
-ghost use Rattle.requests.specs.Refusals.{fitted, written, buffer};
+ghost use Rattle.requests.specs.Refusals.{Written};
 ghost use Rattle.requests.specs.declared.tc.TcOperation.TheVariants.{DeleteFilter, GetFilter, Clsact, NewFilter};
 
 use crate::bpf::Bpf;
 use crate::fault::ArgumentFault;
-use crate::numbers::{RTM_DELTFILTER, RTM_GETTFILTER, RTM_NEWQDISC, TCA_KIND};
 use crate::optional::Optional;
-use crate::put::{check_room, put_attribute, put_headers};
+use crate::writer::{Writer, check_room};
+use records::numbers::{RTM_DELTFILTER, RTM_GETTFILTER, RTM_NEWQDISC, TCA_KIND};
 use records::tcmsg::Tcmsg;
 
 // A traffic control request: a family header and what is done, perhaps with a program that has a class.
@@ -65,6 +65,8 @@ impl Tc<()> {
     }
 }
 
+// Flags, header and buffer stay apart in every writer: a struct of them would be made at each call and taken apart at the next.
+
 // Writes a request that has a family header and no attributes.
 fn write_bare(
     kind: u16,
@@ -72,28 +74,27 @@ fn write_bare(
     family_header: &Tcmsg,
     out: &mut [u8],
 ) -> Result<usize, ArgumentFault>
-    ensures result { result ≡ fitted (tc_bytes kind flags family_header.now []) (length out.old) }
-    ensures after { out.new ≡ buffer result (tc_bytes kind flags family_header.now []) out.old }
+    ensures { Written None (tc_bytes kind flags family_header.now []) result out.old out.new }
 {
     check_room(out.len(), 36)?;
-    Ok(put_headers(out, 36, kind, flags, family_header))
+    let writer = Writer::begin(out, 36, kind, flags, family_header);
+    Ok(writer.len())
 }
 
 fn write_clsact(flags: u16, family_header: &Tcmsg, out: &mut [u8]) -> Result<usize, ArgumentFault>
-    ensures result { result ≡ fitted (tc_bytes 36 flags family_header.now clsact_items) (length out.old) }
-    ensures after { out.new ≡ buffer result (tc_bytes 36 flags family_header.now clsact_items) out.old }
+    ensures { Written None (tc_bytes 36 flags family_header.now clsact_items) result out.old out.new }
 {
     check_room(out.len(), 48)?;
-    let at = put_headers(out, 48, RTM_NEWQDISC, flags, family_header);
-    Ok(put_attribute(out, at, TCA_KIND, b"clsact\0"))
+    let mut writer = Writer::begin(out, 48, RTM_NEWQDISC, flags, family_header);
+    writer.put_attribute(TCA_KIND, b"clsact\0");
+    Ok(writer.len())
 }
 
 impl<C: Optional<u32>> Tc<C> {
     // Writes the request at the front of a buffer and says how long it is. `name` is lent for the program of a new
     // filter; the other requests have none and do not look at it. What is refused leaves the buffer as it was.
     pub fn write(&self, flags: u16, name: &[u8], out: &mut [u8]) -> Result<usize, ArgumentFault>
-        ensures result { result ≡ written (operation_fault self.now.operation name.now) (tc_bytes (operation_type self.now.operation) flags self.now.family_header (operation_items C.value self.now.operation name.now)) (length out.old) }
-        ensures after { out.new ≡ buffer result (tc_bytes (operation_type self.now.operation) flags self.now.family_header (operation_items C.value self.now.operation name.now)) out.old }
+        ensures { Written (operation_fault self.now.operation name.now) (tc_bytes (operation_type self.now.operation) flags self.now.family_header (operation_items C.value self.now.operation name.now)) result out.old out.new }
     {
         match &self.operation {
             TcOperation::DeleteFilter => write_bare(

@@ -1,4 +1,4 @@
-ghost use Rattle.std.specs.Prelude.{◌≡◌, ◌+◌, ◌*◌, List, [], length, take, pos, IfOk};
+ghost use Rattle.std.specs.Prelude.{◌≡◌, ◌+◌, List, [], length, take, pos, IfOk};
 ghost use Rattle.std.specs.Option.{option_map};
 ghost use Rattle.requests.specs.Handles.{bits_of};
 ghost use Rattle.requests.specs.Modes.{mode_flags};
@@ -7,31 +7,31 @@ ghost use Rattle.requests.specs.Table.{condition_flag, signed_descriptor, interf
 ghost use Rattle.requests.specs.Bytes.{request_bytes, request_length, program_length, optional_length};
 ghost use Rattle.requests.specs.Stands.{Stands};
 ghost use Rattle.requests.specs.Builders.{link_bytes, tc_bytes};
-ghost use Rattle.requests.specs.Refusals.{argument_fault, program_fault, interface_fault, optional_descriptor_fault, first, unless, written, buffer};
+ghost use Rattle.requests.specs.Refusals.{argument_fault, program_fault, xdp_fault, interface_fault, unless, Written};
 
-use crate::arguments::{descriptor_index, expected_index, interface_index, optional_index};
+use crate::arguments::{descriptor_index, interface_index, optional_index};
 use crate::bpf::Bpf;
 use crate::fault::ArgumentFault;
 use crate::handle::{TcHandle, tc_handler_make};
 use crate::link::{Link, Xdp};
-use crate::mode::XdpMode;
 use crate::name::check_name;
-use crate::numbers::{
+use crate::request::{Hook, Key, Program, Request, SetXdp};
+use crate::tc::Tc;
+use crate::writer::optional_len;
+use records::align::align;
+use records::ifinfomsg::Ifinfomsg;
+use records::numbers::{
     ETH_P_ALL, REQUEST_ACK, REQUEST_ACK_ECHO, REQUEST_ACK_ECHO_EXCL_CREATE,
     REQUEST_ACK_EXCL_CREATE, REQUEST_DUMP, TC_H_CLSACT, TCA_BPF_FLAG_ACT_DIRECT, XDP_FLAGS_REPLACE,
     XDP_FLAGS_UPDATE_IF_NOEXIST,
 };
-use crate::put::optional_len;
-use crate::request::{Key, Program, Request};
-use crate::tc::Tc;
-use records::align::align;
-use records::ifinfomsg::Ifinfomsg;
 use records::tcmsg::Tcmsg;
 
 // Only where there is no program yet, or only in the place of the expected one.
 fn condition(expected: Option<u32>) -> u32
     ensures { result ≡ condition_flag expected }
 {
+    // no `map_or`: the two flags side by side are plainer
     match expected {
         Some(_) => XDP_FLAGS_REPLACE,
         None => XDP_FLAGS_UPDATE_IF_NOEXIST,
@@ -43,13 +43,11 @@ fn traffic_header(ifindex: i32, handle: u32, parent: u32, info: u32) -> Tcmsg
     ensures { result ≡ record { family = 0; pad1 = 0; pad2 = 0; ifindex = ifindex; handle = handle; parent = parent; info = info } }
 {
     Tcmsg {
-        family: 0,
-        pad1: 0,
-        pad2: 0,
         ifindex,
         handle,
         parent,
         info,
+        ..Tcmsg::default()
     }
 }
 
@@ -58,48 +56,46 @@ pub(crate) fn filter_header(key: Key) -> Result<Tcmsg, ArgumentFault>
     ensures { result ≡ unless (interface_fault key.interface) (filter_header (key_of key)) }
 {
     let ifindex = interface_index(key.interface)?;
-    let info = tc_handler_make(u32::from(key.priority) * 65536, ETH_P_ALL);
+    let info = tc_handler_make(u32::from(key.priority) << 16, ETH_P_ALL);
     Ok(traffic_header(ifindex, u32::from(key.handle), u32::from(key.parent), info))
 }
 
 fn class_bits(class: Option<TcHandle>) -> Option<u32>
     ensures { result ≡ option_map bits_of class }
 {
-    match class {
-        Some(class) => Some(u32::from(class)),
-        None => None,
+    class.map(TcHandle::bits)
+}
+
+// `size` and `write` check alike: a builder that is made for its length alone would be no plainer than these lines.
+impl SetXdp {
+    // Checks the arguments, and says how many bytes the request takes.
+    fn size(self) -> Result<usize, ArgumentFault>
+        ensures { result ≡ unless (xdp_fault self.interface self.descriptor self.expected) (52 + optional_length self.expected) }
+    {
+        interface_index(self.interface)?;
+        optional_index(self.descriptor)?;
+        optional_index(self.expected)?;
+        Ok(52 + usize::from(optional_len(self.expected)))
+    }
+
+    fn write(self, out: &mut [u8]) -> Result<usize, ArgumentFault>
+        ensures { Written (xdp_fault self.interface self.descriptor self.expected) (link_bytes 0x0005 (interface_header self.interface) (signed_descriptor self.descriptor) (mode_flags self.mode + condition_flag self.expected) (option_map pos self.expected)) result out.old out.new }
+    {
+        let index = interface_index(self.interface)?;
+        let fd = optional_index(self.descriptor)?.unwrap_or(-1);
+        let expected_fd = optional_index(self.expected)?;
+        let header = Ifinfomsg {
+            index,
+            ..Ifinfomsg::default()
+        };
+        let flags = self.mode.flags() + condition(self.expected);
+        let xdp = Xdp::new(fd, flags).expected_fd(expected_fd);
+        Link::new(header).xdp(xdp).write(REQUEST_ACK, out)
     }
 }
 
-fn write_set_xdp(
-    interface: u32,
-    descriptor: Option<u32>,
-    expected: Option<u32>,
-    mode: XdpMode,
-    out: &mut [u8],
-) -> Result<usize, ArgumentFault>
-    ensures result { result ≡ written (first (interface_fault interface) (first (optional_descriptor_fault descriptor) (optional_descriptor_fault expected))) (link_bytes 0x0005 (interface_header interface) (signed_descriptor descriptor) (mode_flags mode + condition_flag expected) (option_map pos expected)) (length out.old) }
-    ensures after { out.new ≡ buffer result (link_bytes 0x0005 (interface_header interface) (signed_descriptor descriptor) (mode_flags mode + condition_flag expected) (option_map pos expected)) out.old }
-{
-    let index = interface_index(interface)?;
-    let fd = optional_index(descriptor)?;
-    let expected_fd = expected_index(expected)?;
-    let header = Ifinfomsg {
-        family: 0,
-        pad: 0,
-        kind: 0,
-        index,
-        flags: 0,
-        change: 0,
-    };
-    let xdp = Xdp::new(fd, mode.flags() + condition(expected)).expected_fd(expected_fd);
-    let link = Link::new(header).xdp(xdp);
-    link.write(REQUEST_ACK, out)
-}
-
 fn write_add_clsact(interface: u32, out: &mut [u8]) -> Result<usize, ArgumentFault>
-    ensures result { result ≡ written (interface_fault interface) (tc_bytes 36 0x0605 (traffic_header interface 0xFFFF0000 0xFFFFFFF1 0) clsact_items) (length out.old) }
-    ensures after { out.new ≡ buffer result (tc_bytes 36 0x0605 (traffic_header interface 0xFFFF0000 0xFFFFFFF1 0) clsact_items) out.old }
+    ensures { Written (interface_fault interface) (tc_bytes 36 0x0605 (traffic_header interface 0xFFFF0000 0xFFFFFFF1 0) clsact_items) result out.old out.new }
 {
     let ifindex = interface_index(interface)?;
     let handle = tc_handler_make(TC_H_CLSACT, 0);
@@ -114,8 +110,7 @@ fn write_filter(
     program: Program<'_>,
     out: &mut [u8],
 ) -> Result<usize, ArgumentFault>
-    ensures result { result ≡ written (program_fault (key_of key) (program_of program.entry)) (tc_bytes 44 flags (filter_header (key_of key)) (program_items (program_of program.entry))) (length out.old) }
-    ensures after { out.new ≡ buffer result (tc_bytes 44 flags (filter_header (key_of key)) (program_items (program_of program.entry))) out.old }
+    ensures { Written (program_fault (key_of key) (program_of program.entry)) (tc_bytes 44 flags (filter_header (key_of key)) (program_items (program_of program.entry))) result out.old out.new }
 {
     let header = filter_header(key)?;
     descriptor_index(program.descriptor)?;
@@ -127,33 +122,18 @@ fn write_filter(
 }
 
 fn write_remove(key: Key, out: &mut [u8]) -> Result<usize, ArgumentFault>
-    ensures result { result ≡ written (interface_fault key.interface) (tc_bytes 45 0x0005 (filter_header (key_of key)) []) (length out.old) }
-    ensures after { out.new ≡ buffer result (tc_bytes 45 0x0005 (filter_header (key_of key)) []) out.old }
+    ensures { Written (interface_fault key.interface) (tc_bytes 45 0x0005 (filter_header (key_of key)) []) result out.old out.new }
 {
     let tc = Tc::delete_filter(filter_header(key)?);
     tc.write(REQUEST_ACK, b"", out)
 }
 
-fn write_list(interface: u32, parent: TcHandle, out: &mut [u8]) -> Result<usize, ArgumentFault>
-    ensures result { result ≡ written (interface_fault interface) (tc_bytes 46 0x0301 (traffic_header interface 0 (bits_of parent) 0) []) (length out.old) }
-    ensures after { out.new ≡ buffer result (tc_bytes 46 0x0301 (traffic_header interface 0 (bits_of parent) 0) []) out.old }
+fn write_list(hook: Hook, out: &mut [u8]) -> Result<usize, ArgumentFault>
+    ensures { Written (interface_fault hook.interface) (tc_bytes 46 0x0301 (traffic_header hook.interface 0 (bits_of hook.parent) 0) []) result out.old out.new }
 {
-    let ifindex = interface_index(interface)?;
-    let tc = Tc::get_filter(traffic_header(ifindex, 0, u32::from(parent), 0));
+    let ifindex = interface_index(hook.interface)?;
+    let tc = Tc::get_filter(traffic_header(ifindex, 0, u32::from(hook.parent), 0));
     tc.write(REQUEST_DUMP, b"", out)
-}
-
-fn set_xdp_size(
-    interface: u32,
-    descriptor: Option<u32>,
-    expected: Option<u32>,
-) -> Result<usize, ArgumentFault>
-    ensures { result ≡ unless (first (interface_fault interface) (first (optional_descriptor_fault descriptor) (optional_descriptor_fault expected))) (52 + optional_length expected) }
-{
-    interface_index(interface)?;
-    optional_index(descriptor)?;
-    expected_index(expected)?;
-    Ok(52 + usize::from(optional_len(expected)))
 }
 
 fn filter_size(key: Key, program: Program<'_>) -> Result<usize, ArgumentFault>
@@ -175,39 +155,30 @@ fn fixed_size(interface: u32, len: usize) -> Result<usize, ArgumentFault>
 
 impl Request<'_> {
     // Checks the arguments, and says how many bytes the request takes.
+    #[tactic(auto, using(crate::proofs::Standing::request_length_lem), unfolding(crate::specs::Refusals::argument_fault))]
     pub fn size(&self) -> Result<usize, ArgumentFault>
         ensures result { result ≡ unless (argument_fault (asks self.now)) (request_length (asks self.now)) }
         ensures exact { request_length (asks self.now) ≡ length (request_bytes (asks self.now)) }
     {
         match *self {
-            Request::SetXdp {
-                interface,
-                descriptor,
-                expected,
-                ..
-            } => set_xdp_size(interface, descriptor, expected),
+            Request::SetXdp(set) => set.size(),
             Request::AddClsact { interface } => fixed_size(interface, 48),
-            Request::Attach(key, program) => filter_size(key, program),
-            Request::Replace(key, program) => filter_size(key, program),
+            Request::Attach(key, program) | Request::Replace(key, program) => filter_size(
+                key, program,
+            ),
             Request::Remove(key) => fixed_size(key.interface, 36),
-            Request::List { interface, .. } => fixed_size(interface, 36),
+            Request::List(hook) => fixed_size(hook.interface, 36),
         }
     }
 
     // Writes the request at the front of a buffer and says how long it is. What cannot be written is refused, by the
     // first check that fails, and then the buffer is left as it was.
     pub fn write(&self, out: &mut [u8]) -> Result<usize, ArgumentFault>
-        ensures result { result ≡ written (argument_fault (asks self.now)) (request_bytes (asks self.now)) (length out.old) }
-        ensures after { out.new ≡ buffer result (request_bytes (asks self.now)) out.old }
+        ensures written { Written (argument_fault (asks self.now)) (request_bytes (asks self.now)) result out.old out.new }
         ensures stands { IfOk result (λ n. Stands (take n out.new) (asks self.now)) }
     {
         match *self {
-            Request::SetXdp {
-                interface,
-                descriptor,
-                expected,
-                mode,
-            } => write_set_xdp(interface, descriptor, expected, mode, out),
+            Request::SetXdp(set) => set.write(out),
             Request::AddClsact { interface } => write_add_clsact(interface, out),
             Request::Attach(key, program) => write_filter(
                 REQUEST_ACK_ECHO_EXCL_CREATE,
@@ -217,7 +188,7 @@ impl Request<'_> {
             ),
             Request::Replace(key, program) => write_filter(REQUEST_ACK_ECHO, key, program, out),
             Request::Remove(key) => write_remove(key, out),
-            Request::List { interface, parent } => write_list(interface, parent, out),
+            Request::List(hook) => write_list(hook, out),
         }
     }
 }

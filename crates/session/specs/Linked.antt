@@ -1,7 +1,9 @@
 -- Links: filters that are a session's own.
-use Rattle.std.specs.Prelude.{ℕ, zero, suc, Bool, not, ◌&&◌, ◌||◌, List, [], ◌∷◌, map, length, Some, None, Option, nat_le}
+use Rattle.std.specs.Prelude.{ℕ, Bool, ◌&&◌, List, map, Result, nat_le}
 use Rattle.requests.specs.Asks.{Key, key_of}
-use Rattle.hosts.specs.Keyed.{taken, distinct, before, without, altered}
+use Rattle.keyed.specs.Keyed.{taken, without, altered}
+use Rattle.keyed.specs.Rows.{admitted}
+use Rattle.keyed.specs.declared.table.Refused.{Refused}
 use Rattle.session.specs.declared.link.Link.{Link as CodeLink}
 
 -- the filter's key, and the descriptor of the program that was last confirmed for it
@@ -19,12 +21,6 @@ numbered k = nat_le 1 k.priority && nat_le 1 k.handle
 abbrev pub held : Key → List Link → Bool
 held = taken (λ l. l.key)
 
-abbrev pub apart : List Link → Bool
-apart = distinct (λ l. l.key)
-
-abbrev pub place : Key → List Link → ℕ
-place = before (λ l. l.key)
-
 abbrev pub dropped : Key → List Link → List Link
 dropped = without (λ l. l.key)
 
@@ -35,11 +31,6 @@ with_descriptor d l = record { key = l.key; descriptor = d }
 abbrev pub confirmed : Key → ℕ → List Link → List Link
 confirmed k d = map (altered (λ l. l.key) k (with_descriptor d))
 
-abbrev pub nth : List Link → ℕ → Option Link
-nth [] i = None
-nth (l ∷ ls) zero = Some l
-nth (l ∷ ls) (suc i) = nth ls i
-
--- one more may be added: there are fewer than 64, and its key is not held
-abbrev pub takes : Key → List Link → Bool
-takes k ls = not (held k ls || nat_le 64 (length ls))
+-- one more may be added: its key is not held, and there are fewer than 64
+abbrev pub takes : Key → List Link → Result (Unit {0}) Refused
+takes = admitted (λ l. l.key) 64

@@ -6,6 +6,7 @@ use requests::request::Key;
 pub mod make;
 
 // A filter that is the session's own: its key, and the descriptor of the program that was last confirmed for it.
+// No `impl Model`: to be Copy it would have to make the two handles again from their bits, and nothing else would be plainer.
 #[derive(Clone, Copy)]
 pub struct Link {
     key: Key,

@@ -11,8 +11,8 @@ mod tests {
     use requests::fault::ArgumentFault;
     use requests::handle::TcHandle;
     use requests::mode::XdpMode;
-    use requests::request::{Key, Program, Request};
-    use std::alloc::{AllocError, Global};
+    use requests::request::{Hook, Key, Program, Request, SetXdp};
+    use std::alloc::Global;
     use std::fmt::Debug;
     use std::test::Fail;
 
@@ -23,7 +23,7 @@ mod tests {
         expected: T,
     }
 
-    // Fails a test whose fact does not hold.
+    // Fails a test whose fact does not hold. It is no `assert!`, which ends the process: nothing here may.
     fn check(holds: bool) -> Result<(), Fail>
         ensures { IfOk result (λ _. IsTrue holds) }
     {
@@ -42,37 +42,18 @@ mod tests {
         Err(Differ { found, expected })?
     }
 
-    // One hexadecimal digit.
-    fn digit(n: u8) -> char {
-        match n {
-            0..=9 => (b'0' + n) as char,
-            10..=15 => (b'a' + (n - 10)) as char,
-            _ => '?',
-        }
-    }
-
-    // Bytes in hexadecimal.
-    fn hex(heap: Global, bytes: &[u8]) -> Result<String, AllocError> {
-        let mut text = String::new(heap);
-        for b in bytes {
-            text.push(digit(*b / 16))?;
-            text.push(digit(*b % 16))?;
-        }
-        Ok(text)
-    }
-
     fn set_xdp(
         interface: u32,
         descriptor: Option<u32>,
         expected: Option<u32>,
         mode: XdpMode,
     ) -> Request<'static> {
-        Request::SetXdp {
+        Request::SetXdp(SetXdp {
             interface,
             descriptor,
             expected,
             mode,
-        }
+        })
     }
 
     fn add_clsact(interface: u32) -> Request<'static> {
@@ -80,7 +61,7 @@ mod tests {
     }
 
     fn list(interface: u32, parent: TcHandle) -> Request<'static> {
-        Request::List { interface, parent }
+        Request::List(Hook { interface, parent })
     }
 
     // An attach that leaves its priority and handle to the other end.
@@ -105,13 +86,13 @@ mod tests {
         let mut out = [0xa5u8; 512];
         let n = request.write(&mut out)?;
         check(n <= 500)?;
-        check_eq(hex(heap, &out[0..n])?.as_str(), expected)?;
+        check_eq(hex::encode(heap, &out[0..n])?.as_str(), expected)?;
         check_eq(out[n], 0xa5)?;
         let back = Request::read(&out[0..n]).ok_or("no request")?;
         let mut again = [0u8; 512];
         let m = back.write(&mut again)?;
         check(m <= 512)?;
-        check_eq(hex(heap, &again[0..m])?.as_str(), expected)
+        check_eq(hex::encode(heap, &again[0..m])?.as_str(), expected)
     }
 
     #[test]
@@ -136,8 +117,7 @@ mod tests {
             heap,
             attach(b"xxx", None),
             "480000002c000d060100000000000000000000000200000000000000f2ffffff0003000008000100627066001c000280080006000700000008000700787878000800080001000000",
-        )?;
-        Ok(())
+        )
     }
 
     #[test]
@@ -164,8 +144,7 @@ mod tests {
                 },
             ),
             "540000002c000d06010000000000000000000000ffffff7ffffffffff3ffffff0003ffff08000100627066002800028008000300ffffffff08000600ffffff7f0a0007006f726465720000000800080001000000",
-        )?;
-        Ok(())
+        )
     }
 
     #[test]
@@ -175,8 +154,7 @@ mod tests {
             heap,
             attach(&[110; 256], Some(TcHandle::of_bits(0x00010001))),
             "500100002c000d060100000000000000000000000200000000000000f2ffffff0003000008000100627066002401028008000300010001000800060007000000050107006e6e6e6e6e6e6e6e6e6e6e6e6e6e6e6e6e6e6e6e6e6e6e6e6e6e6e6e6e6e6e6e6e6e6e6e6e6e6e6e6e6e6e6e6e6e6e6e6e6e6e6e6e6e6e6e6e6e6e6e6e6e6e6e6e6e6e6e6e6e6e6e6e6e6e6e6e6e6e6e6e6e6e6e6e6e6e6e6e6e6e6e6e6e6e6e6e6e6e6e6e6e6e6e6e6e6e6e6e6e6e6e6e6e6e6e6e6e6e6e6e6e6e6e6e6e6e6e6e6e6e6e6e6e6e6e6e6e6e6e6e6e6e6e6e6e6e6e6e6e6e6e6e6e6e6e6e6e6e6e6e6e6e6e6e6e6e6e6e6e6e6e6e6e6e6e6e6e6e6e6e6e6e6e6e6e6e6e6e6e6e6e6e6e6e6e6e6e6e6e6e6e6e6e6e6e6e6e6e6e6e6e6e6e6e6e6e6e6e6e6e6e6e6e6e6e6e6e6e6e6e6e6e6e6e6e6e6e6e6e6e6e6e6e6e6e6e6e6e6e6e6e6e6e6e6e000000000800080001000000",
-        )?;
-        Ok(())
+        )
     }
 
     #[test]
@@ -235,8 +213,7 @@ mod tests {
                 handle: TcHandle::of_bits(0xffffffff),
             }),
             "240000002d00050001000000000000000000000002000000ffffffff000000000003ffff",
-        )?;
-        Ok(())
+        )
     }
 
     #[test]
@@ -251,8 +228,7 @@ mod tests {
             heap,
             add_clsact(2),
             "3000000024000506010000000000000000000000020000000000fffff1ffffff000000000b000100636c736163740000",
-        )?;
-        Ok(())
+        )
     }
 
     #[test]
@@ -277,8 +253,7 @@ mod tests {
             heap,
             set_xdp(2, Some(7), None, XdpMode::Skb),
             "340000001300050001000000000000000000000002000000000000000000000014002b8008000100070000000800030003000000",
-        )?;
-        Ok(())
+        )
     }
 
     #[test]
@@ -303,8 +278,7 @@ mod tests {
             heap,
             set_xdp(2, Some(7), None, XdpMode::Hardware),
             "340000001300050001000000000000000000000002000000000000000000000014002b8008000100070000000800030009000000",
-        )?;
-        Ok(())
+        )
     }
 
     #[test]
@@ -319,8 +293,7 @@ mod tests {
             heap,
             set_xdp(2, None, None, XdpMode::Default),
             "340000001300050001000000000000000000000002000000000000000000000014002b8008000100ffffffff0800030001000000",
-        )?;
-        Ok(())
+        )
     }
 
     const KEY: Key = Key {
@@ -330,38 +303,36 @@ mod tests {
         handle: TcHandle::AUTO_ASSIGN,
     };
 
+    const ORDER: Program<'static> = Program {
+        descriptor: 7,
+        name: b"order",
+        class: None,
+    };
+
     // Refused, in the order of the checks, and the buffer is left as it was.
     fn refuses(request: Request<'_>, out: &mut [u8], fault: ArgumentFault) -> Result<(), Fail> {
         check_eq(request.write(out), Err(fault))?;
-        for b in out.iter() {
-            check_eq(*b, 0xa5)?;
-        }
-        Ok(())
+        check(out.iter().all(|b| *b == 0xa5))
     }
 
     #[test]
     fn refused() -> Result<(), Fail> {
         let mut out = [0xa5u8; 75];
-        let order = Program {
-            descriptor: 7,
-            name: b"order",
-            class: None,
-        };
         let far = Key {
             interface: 0,
             ..KEY
         };
         let high = Program {
             descriptor: 0x8000_0000,
-            ..order
+            ..ORDER
         };
         let zero = Program {
             name: b"or\0er",
-            ..order
+            ..ORDER
         };
         let long = Program {
             name: &[110; 257],
-            ..order
+            ..ORDER
         };
         refuses(
             Request::Attach(far, high),
@@ -387,38 +358,24 @@ mod tests {
             size: 75,
             expected: 76,
         };
-        refuses(Request::Attach(KEY, order), &mut out, short)
+        refuses(Request::Attach(KEY, ORDER), &mut out, short)
     }
 
     // The first attribute of a row, by its payload.
     fn first(row: &[u8]) -> Option<Result<&[u8], AttributeFault>> {
-        match NlAttrs::new(row).next()? {
-            Ok(attr) => Some(Ok(attr.data)),
-            Err(fault) => Some(Err(fault)),
-        }
-    }
-
-    fn reads(row: &[u8], payload: &[u8]) -> Result<(), Fail> {
-        match first(row) {
-            Some(Ok(data)) => check_eq(data, payload),
-            _ => check(false),
-        }
+        let first = NlAttrs::new(row).next();
+        first.map(|read| read.map(|attr| attr.data))
     }
 
     fn faults(row: &[u8], expected: AttributeFault, number: u8) -> Result<(), Fail> {
-        match first(row) {
-            Some(Err(fault)) => {
-                check_eq(fault, expected)?;
-                check_eq(fault.number(), number)
-            }
-            _ => check(false),
-        }
+        check_eq(first(row), Some(Err(expected)))?;
+        check_eq(expected.number(), number)
     }
 
     // One payload byte takes a row of 8 bytes, with its padding; a row of 5 has none, and is refused.
     #[test]
     fn row_edges() -> Result<(), Fail> {
-        reads(&[5, 0, 7, 0, 0x61, 0, 0, 0], b"a")?;
+        check_eq(first(&[5, 0, 7, 0, 0x61, 0, 0, 0]), Some(Ok(b"a")))?;
         let past = AttributeFault::Past {
             size: 1,
             expected: 4,
@@ -436,20 +393,15 @@ mod tests {
     // The sizes: with and without a class, and the longest name.
     #[test]
     fn sizes() -> Result<(), Fail> {
-        let order = Program {
-            descriptor: 7,
-            name: b"order",
-            class: None,
-        };
         let class = Program {
             class: Some(TcHandle::new(1, 1)),
-            ..order
+            ..ORDER
         };
         let longest = Program {
             name: &[110; 256],
             ..class
         };
-        check_eq(Request::Attach(KEY, order).size(), Ok(76))?;
+        check_eq(Request::Attach(KEY, ORDER).size(), Ok(76))?;
         check_eq(Request::Attach(KEY, class).size(), Ok(84))?;
         check_eq(Request::Attach(KEY, longest).size(), Ok(336))?;
         check_eq(Request::Remove(KEY).size(), Ok(36))
@@ -459,12 +411,7 @@ mod tests {
     #[test]
     fn no_request() -> Result<(), Fail> {
         let mut out = [0u8; 76];
-        let order = Program {
-            descriptor: 7,
-            name: b"order",
-            class: None,
-        };
-        Request::Attach(KEY, order).write(&mut out)?;
+        Request::Attach(KEY, ORDER).write(&mut out)?;
         check(Request::read(&out).is_some())?;
         check(Request::read(&out[0..75]).is_none())?;
         out[67] = 1;

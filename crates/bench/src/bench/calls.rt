@@ -1,6 +1,6 @@
 ghost use Rattle.std.specs.Prelude.{◌≡◌, true, []};
-ghost use Rattle.std.specs.Option.{option_map};
 ghost use Rattle.requests.specs.Asks.{key_of};
+ghost use Rattle.requests.specs.FilterMessages.{filter_of};
 ghost use Rattle.queue.specs.Waiting.{waiting};
 ghost use Rattle.filters.specs.Held.{held};
 ghost use Rattle.bench.specs.Wholeness.{all_datagrams};
@@ -9,14 +9,13 @@ ghost use Rattle.bench.specs.Calls.{state, replying, Replied, given, with_given,
 ghost use Rattle.bench.specs.Benches.{state_of};
 
 use crate::bench::Bench;
+use filters::refusal::Refusal;
 use filters::row::Row;
 use filters::store::Filters;
 use queue::queue::Queue;
+use records::numbers::ENOBUFS;
+use requests::filter::Filter;
 use requests::request::Key;
-
-const ENOBUFS: i32 = 105;
-
-const INVALID: i32 = -22;
 
 // The priority that is given where none is asked for.
 const PRIORITY: u16 = 49152;
@@ -25,13 +24,12 @@ const PRIORITY: u16 = 49152;
 fn prioritize(wanted: Key) -> Key
     ensures { key_of result ≡ prioritized (key_of wanted) }
 {
-    if wanted.priority == 0 {
-        Key {
+    match wanted.priority {
+        0 => Key {
             priority: PRIORITY,
             ..wanted
-        }
-    } else {
-        wanted
+        },
+        _ => wanted,
     }
 }
 
@@ -72,16 +70,14 @@ impl Bench {
         }
     }
 
-    // Puts a filter of any kind on the host, on the terms of an attach: a priority or handle of 0 is chosen. Answers its key, or the
-    // status that refuses it.
-    pub fn give(&mut self, wanted: Key, kind: &[u8], name: Option<&[u8]>) -> Result<Key, i32>
-        ensures answer { mapped_ok key_of result ≡ given (key_of wanted) kind.now (option_map (λ x. x.now) name.entry) (state_of self.old).filters }
-        ensures after { state_of self.new ≡ state (with_given (key_of wanted) kind.now (option_map (λ x. x.now) name.entry) (state_of self.old).filters) (state_of self.old).waiting }
+    // Puts a filter of any kind on the host, on the terms of an attach: a priority or handle of 0 is chosen. Answers its key, or why
+    // it is refused.
+    pub fn give(&mut self, wanted: Filter<'_>) -> Result<Key, Refusal>
+        ensures answer { mapped_ok key_of result ≡ given (filter_of wanted.entry) (state_of self.old).filters }
+        ensures after { state_of self.new ≡ state (with_given (filter_of wanted.entry) (state_of self.old).filters) (state_of self.old).waiting }
     {
-        let key = self.grant(wanted);
-        let Some(row) = Row::new(key, kind, name) else {
-            return Err(INVALID);
-        };
+        let key = self.grant(wanted.key);
+        let row = Row::new(Filter { key, ..wanted }).ok_or(Refusal::Invalid)?;
         self.filters.add(row)?;
         Ok(key)
     }
@@ -91,10 +87,6 @@ impl Bench {
         requires { all_datagrams (waiting reply.now) ≡ true }
         ensures { Replied (replying (waiting reply.now) (state_of self.old).filters) (state_of self.old) result (state_of self.new) }
     {
-        if self.queue.append(reply) {
-            Ok(())
-        } else {
-            Err(ENOBUFS)
-        }
+        self.queue.append(reply).map_err(|_| ENOBUFS)
     }
 }

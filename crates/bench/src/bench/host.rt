@@ -7,13 +7,8 @@ ghost use Rattle.bench.specs.Ruling;
 
 use crate::bench::Bench;
 use hosts::host::Host;
+use records::numbers::{EAGAIN, EINVAL, LONGEST_DATAGRAM};
 use requests::request::Request;
-
-const EAGAIN: i32 = 11;
-
-const EINVAL: i32 = 22;
-
-const LONGEST: usize = 4096;
 
 impl Host for Bench {
     ghost lawful = { Unit {0} };
@@ -24,7 +19,7 @@ impl Host for Bench {
 
     ghost did = { λ b e c. Calls (state_of b) e (state_of c) };
 
-    ghost meant = { λ l h. Ruling.meant (held h.filters) (Waiting.waiting h.queue) (held_stand h.filters) h.filters.apart h.whole };
+    ghost meant = { λ l h. Ruling.meant (held h.filters) (Waiting.waiting h.queue) (held_stand h.filters) h.filters.table.differ h.whole };
 
     ghost rules = { λ l h e k d. Ruling.rules (state_of h) (state_of k) e (held_stand h.filters) d };
 
@@ -34,19 +29,14 @@ impl Host for Bench {
     }
 
     fn send(&mut self, request: &[u8]) -> Result<(), i32> {
-        let Some(asked) = Request::read(request) else {
-            return Err(EINVAL);
-        };
+        let asked = Request::read(request).ok_or(EINVAL)?;
         self.serve(request, asked)
     }
 
     fn receive(&mut self, buffer: &mut [u8]) -> Result<usize, i32> {
-        if buffer.len() < LONGEST {
+        if buffer.len() < LONGEST_DATAGRAM {
             return Err(EINVAL);
         }
-        match self.queue.pop_into(buffer) {
-            Some(n) => Ok(n),
-            None => Err(EAGAIN),
-        }
+        self.queue.pop_into(buffer).ok_or(EAGAIN)
     }
 }

@@ -1,4 +1,5 @@
-ghost use Rattle.std.specs.Prelude.{◌≡◌, ◌≤◌, ◌∷◌, length, Some, None};
+ghost use Rattle.std.specs.Prelude.{◌≡◌, ◌≤◌, ◌∷◌, length, if◌then◌else◌, Some, None};
+ghost use Rattle.std.specs.Option.{option_map};
 ghost use Rattle.requests.specs.Asks.{key_of, asks};
 ghost use Rattle.requests.specs.Back.{Writes};
 ghost use Rattle.requests.specs.Handles.{bits_of};
@@ -6,6 +7,7 @@ ghost use Rattle.requests.specs.FilterMessages.{filter_fault};
 ghost use Rattle.requests.specs.Refusals.{name_fault};
 ghost use Rattle.hosts.specs.Meaning.{bpf};
 ghost use Rattle.hosts.specs.Rules.{without};
+ghost use Rattle.filters.specs.Fitting.{is_filter};
 ghost use Rattle.filters.specs.Rows.{meaning};
 ghost use Rattle.filters.specs.Keys.{admitted, renaming, removing};
 ghost use Rattle.bench.specs.Serving.{answered, echoed, granted, named, attaching, replacing, status_of, listing, served};
@@ -13,52 +15,78 @@ ghost use Rattle.bench.specs.Calls.{Replied, replying};
 ghost use Rattle.bench.specs.Benches.{state_of};
 
 use crate::bench::Bench;
-use crate::reply::{list, put_answer, put_row};
+use crate::reply::{answer, list, put_alone, put_row};
+use crate::sent::Sent;
+use filters::refusal::Refusal;
 use filters::row::Row;
 use queue::queue::Queue;
-use requests::handle::TcHandle;
-use requests::numbers::{REQUEST_ACK_ECHO, REQUEST_ACK_ECHO_EXCL_CREATE};
-use requests::request::{Key, Request};
+use records::numbers::{REQUEST_ACK_ECHO, REQUEST_ACK_ECHO_EXCL_CREATE};
+use requests::filter::Filter;
+use requests::request::{Hook, Key, Request};
 
-const NO_ENTRY: i32 = -2;
+// The status of an outcome: 0 acknowledges. No `map_or`: one match says both.
+fn status_of(outcome: Result<(), Refusal>) -> i32
+    ensures { result ≡ status_of outcome }
+{
+    match outcome {
+        Ok(()) => 0,
+        Err(refusal) => refusal.status(),
+    }
+}
+
+// A row for a bpf filter of this name.
+fn bpf_row(key: Key, name: &[u8]) -> Option<Row>
+    ensures { let f = named (key_of key) name.now in option_map meaning result ≡ (if is_filter f then Some f else None) }
+{
+    Row::new(Filter {
+        key,
+        kind: b"bpf",
+        name: Some(name),
+    })
+}
 
 impl Bench {
-    // Answers a request by a status; 0 acknowledges it.
-    pub(crate) fn answer(&mut self, request: &[u8], status: i32) -> Result<(), i32>
-        requires { 16 ≤ length request.now }
-        ensures { Replied (answered request.now status (state_of self.old).filters) (state_of self.old) result (state_of self.new) }
+    // Acknowledges a request, or refuses it.
+    pub(crate) fn answer(
+        &mut self,
+        request: Sent<'_>,
+        outcome: Result<(), Refusal>,
+    ) -> Result<(), i32>
+        ensures { Replied (answered request.entry.bytes.now (status_of outcome) (state_of self.old).filters) (state_of self.old) result (state_of self.new) }
     {
         let mut reply = Queue::new();
-        put_answer(&mut reply, request, status);
+        put_alone(&mut reply, &answer(request, status_of(outcome)));
         self.reply(&reply)
     }
 
     // Echoes a filter, and acknowledges the request.
-    fn echo(&mut self, request: &[u8], row: &Row, flags: u16) -> Result<(), i32>
-        requires { 16 ≤ length request.now }
-        ensures { Replied (echoed flags (meaning row.now) request.now (state_of self.old).filters) (state_of self.old) result (state_of self.new) }
+    fn echo(&mut self, request: Sent<'_>, row: &Row, flags: u16) -> Result<(), i32>
+        ensures { Replied (echoed flags (meaning row.now) request.entry.bytes.now (state_of self.old).filters) (state_of self.old) result (state_of self.new) }
     {
         let mut reply = Queue::new();
         put_row(&mut reply, row, flags);
-        put_answer(&mut reply, request, 0);
+        put_alone(&mut reply, &answer(request, 0));
         self.reply(&reply)
     }
 
     // Lists the filters under a parent.
-    pub(crate) fn list(&mut self, interface: u32, parent: TcHandle) -> Result<(), i32>
-        ensures { Replied (replying (listing interface (bits_of parent) (state_of self.old).filters) (state_of self.old).filters) (state_of self.old) result (state_of self.new) }
+    pub(crate) fn list(&mut self, hook: Hook) -> Result<(), i32>
+        ensures { Replied (replying (listing hook.interface (bits_of hook.parent) (state_of self.old).filters) (state_of self.old).filters) (state_of self.old) result (state_of self.new) }
     {
-        let reply = list(&self.filters, interface, parent);
+        let reply = list(&self.filters, hook);
         self.reply(&reply)
     }
 
     // Takes off the filter of a key.
-    pub(crate) fn remove(&mut self, request: &[u8], key: Key) -> Result<(), i32>
-        requires { 16 ≤ length request.now }
-        ensures { Replied (answered request.now (status_of (removing (key_of key) (state_of self.old).filters)) (without (key_of key) (state_of self.old).filters)) (state_of self.old) result (state_of self.new) }
+    pub(crate) fn remove(&mut self, request: Sent<'_>, key: Key) -> Result<(), i32>
+        ensures { Replied (answered request.entry.bytes.now (status_of (removing (key_of key) (state_of self.old).filters)) (without (key_of key) (state_of self.old).filters)) (state_of self.old) result (state_of self.new) }
     {
-        let status = if self.filters.has(key) { 0 } else { NO_ENTRY };
-        self.answer(request, status)?;
+        let outcome = if self.filters.has(key) {
+            Ok(())
+        } else {
+            Err(Refusal::NoEntry)
+        };
+        self.answer(request, outcome)?;
         let _ = self.filters.remove(key);
         Ok(())
     }
@@ -66,16 +94,14 @@ impl Bench {
 
 impl Bench {
     // Adds a bpf filter.
-    pub(crate) fn attach(&mut self, request: &[u8], wanted: Key, name: &[u8]) -> Result<(), i32>
-        requires { (16 ≤ length request.now) × (filter_fault (key_of wanted) bpf (Some name.now) ≡ None) }
-        ensures { Replied (attaching (admitted (granted (key_of wanted) (state_of self.old).filters) (state_of self.old).filters) (named (granted (key_of wanted) (state_of self.old).filters) name.now) request.now (state_of self.old).filters) (state_of self.old) result (state_of self.new) }
+    pub(crate) fn attach(&mut self, request: Sent<'_>, wanted: Key, name: &[u8]) -> Result<(), i32>
+        requires { filter_fault (key_of wanted) bpf (Some name.now) ≡ None }
+        ensures { Replied (attaching (admitted (granted (key_of wanted) (state_of self.old).filters) (state_of self.old).filters) (named (granted (key_of wanted) (state_of self.old).filters) name.now) request.entry.bytes.now (state_of self.old).filters) (state_of self.old) result (state_of self.new) }
     {
         let key = self.grant(wanted);
-        let Some(row) = Row::new(key, b"bpf", Some(name)) else {
-            unreachable()
-        };
-        if let Err(status) = self.filters.admits(key) {
-            return self.answer(request, status);
+        let row = bpf_row(key, name).unwrap();
+        if let Err(refusal) = self.filters.admits(key) {
+            return self.answer(request, Err(refusal));
         }
         self.echo(request, &row, REQUEST_ACK_ECHO_EXCL_CREATE)?;
         let _ = self.filters.add(row);
@@ -83,16 +109,14 @@ impl Bench {
     }
 
     // Renames a bpf filter.
-    pub(crate) fn replace(&mut self, request: &[u8], key: Key, name: &[u8]) -> Result<(), i32>
-        requires { (16 ≤ length request.now) × (name_fault name.now ≡ None) }
-        ensures { Replied (replacing (renaming (key_of key) name.now (state_of self.old).filters) (key_of key) name.now request.now (state_of self.old).filters) (state_of self.old) result (state_of self.new) }
+    pub(crate) fn replace(&mut self, request: Sent<'_>, key: Key, name: &[u8]) -> Result<(), i32>
+        requires { name_fault name.now ≡ None }
+        ensures { Replied (replacing (renaming (key_of key) name.now (state_of self.old).filters) (key_of key) name.now request.entry.bytes.now (state_of self.old).filters) (state_of self.old) result (state_of self.new) }
     {
         if !self.filters.has_bpf(key) {
-            return self.answer(request, NO_ENTRY);
+            return self.answer(request, Err(Refusal::NoEntry));
         }
-        let Some(row) = Row::new(key, b"bpf", Some(name)) else {
-            unreachable()
-        };
+        let row = bpf_row(key, name).unwrap();
         self.echo(request, &row, REQUEST_ACK_ECHO)?;
         let _ = self.filters.rename(key, name);
         Ok(())
@@ -105,13 +129,13 @@ impl Bench {
         requires { Writes (asks asked) request.now }
         ensures { Replied (served (state_of self.old).filters request.now (asks asked.entry)) (state_of self.old) result (state_of self.new) }
     {
+        let request = Sent { bytes: request };
         match asked {
-            Request::SetXdp { .. } => self.answer(request, 0),
-            Request::AddClsact { .. } => self.answer(request, 0),
+            Request::SetXdp(_) | Request::AddClsact { .. } => self.answer(request, Ok(())),
             Request::Attach(key, program) => self.attach(request, key, program.name),
             Request::Replace(key, program) => self.replace(request, key, program.name),
             Request::Remove(key) => self.remove(request, key),
-            Request::List { interface, parent } => self.list(interface, parent),
+            Request::List(hook) => self.list(hook),
         }
     }
 }

@@ -1,43 +1,30 @@
-ghost use Rattle.std.specs.Prelude.{◌≡◌, ◌≤◌, ◌++◌, length, drop};
-ghost use Rattle.std.specs.Option.{option_map};
-ghost use Rattle.filters.specs.Texts.{said};
-ghost use Rattle.filters.specs.Fitting.{Short};
+ghost use Rattle.std.specs.Prelude.{◌≡◌, ◌≤◌, length};
+ghost use Rattle.std.specs.Option.{option_map, option_copied};
+ghost use Rattle.filters.specs.Texts.{said, Short};
 
 use crate::text::Text;
-
-// Writes a text to the front of an array.
-fn lay(out: &mut [u8], text: &[u8])
-    requires { length text.now ≤ length out.old }
-    ensures { out.new ≡ text.now ++ drop (length text.now) out.old }
-{
-    let len = text.len();
-    out[0..len].copy_from_slice(text);
-}
+use capped::list::Capped;
 
 impl Text {
     pub(crate) fn of(text: &[u8]) -> Text
         requires { length text.now ≤ 256 }
         ensures { said result ≡ text.now }
     {
-        let mut bytes = [0u8; 256];
-        let len = text.len();
-        lay(&mut bytes, text);
-        Text { bytes, len }
+        let mut bytes = Capped::new(0);
+        bytes.extend(text).unwrap();
+        Text { bytes }
     }
 
     pub(crate) fn perhaps(text: Option<&[u8]>) -> Option<Text>
-        requires { Short (option_map (λ x. x.now) text) }
-        ensures { option_map said result ≡ option_map (λ x. x.now) text.entry }
+        requires { Short (option_copied text) }
+        ensures { option_map said result ≡ option_copied text.entry }
     {
-        match text {
-            Some(text) => Some(Text::of(text)),
-            None => None,
-        }
+        text.map(Text::of)
     }
 
     pub fn bytes(&self) -> &[u8]
         ensures { result.now ≡ said self.now }
     {
-        &self.bytes[0..self.len]
+        self.bytes.as_slice()
     }
 }

@@ -1,22 +1,31 @@
-ghost use Rattle.std.specs.Prelude.{◌≡◌, ◌+◌, ◌-◌, ◌<◌, ◌≤◌, ◌&&◌, [], ◌∷◌, ◌++◌, length, if◌then◌else◌, nat_le, nat_lt, slice_index};
+ghost use Rattle.std.specs.Prelude.{◌≡◌, ◌+◌, ◌-◌, ◌<◌, ◌≤◌, ◌&&◌, [], ◌∷◌, ◌++◌, drop, length, if◌then◌else◌, get_or, set, nat_le, nat_lt};
+ghost use Rattle.capped.specs.Values.{values, room};
 ghost use Rattle.queue.specs.Cuts.{bulk, takes, joined, fitting, behind, fronted};
 ghost use Rattle.queue.specs.Waiting.{waiting};
 
 use super::Queue;
-use super::moves::{hand, place, shift};
+use capped::list::{Capped, Full};
 
+// Not the protocol's own constants: a queue of datagrams stands on no crate of the protocol.
 const LEAST: usize = 16;
 
 const LONGEST: usize = 4096;
 
-const ROOM: usize = 16384;
-
-// Whether a datagram of so many bytes may wait beside those that are used.
-fn may_wait(used: usize, len: usize) -> bool
-    requires { used ≤ 16384 }
-    ensures { result ≡ (nat_le 16 len && (nat_le len 4096 && nat_le (used + len) 16384)) }
+// Whether a datagram may have so many bytes.
+fn is_sized(len: usize) -> bool
+    ensures { result ≡ (nat_le 16 len && nat_le len 4096) }
 {
-    len >= LEAST && len <= LONGEST && used + len <= ROOM
+    (LEAST..=LONGEST).contains(&len)
+}
+
+// Adds to the last length, by its place: a capped list lends no value of its own to be written.
+fn lengthen(lens: &mut Capped<u16, 1024>, more: u16)
+    requires { let ns = values lens.old in (0 < length ns) × (get_or ns (length ns - 1) 0 + more ≤ 4096) }
+    ensures { let ns = values lens.old in values lens.new ≡ set ns (length ns - 1) (get_or ns (length ns - 1) 0 + more) }
+{
+    let place = lens.len() - 1;
+    let last = lens.as_slice()[place];
+    lens.replace(place, last + more);
 }
 
 impl Queue {
@@ -24,62 +33,51 @@ impl Queue {
         ensures { waiting result ≡ [] }
     {
         Queue {
-            bytes: [0; 16384],
-            lens: [0; 1024],
-            count: 0,
-            used: 0,
+            bytes: Capped::new(0),
+            lens: Capped::new(0),
         }
     }
 
     pub fn clear(&mut self)
         ensures { waiting self.new ≡ [] }
     {
-        self.count = 0;
-        self.used = 0;
+        self.bytes.clear();
+        self.lens.clear();
     }
 
-    // Puts a datagram of 16 to 4,096 bytes last; where there is no room, or it has another length, nothing is altered.
-    pub fn push(&mut self, datagram: &[u8]) -> bool
-        ensures answer { result ≡ takes (waiting self.old) datagram.now }
-        ensures after { waiting self.new ≡ (if result then waiting self.old ++ datagram.now ∷ [] else waiting self.old) }
+    // Puts a datagram of 16 to 4,096 bytes last; one of another length has no room either. Then nothing is altered.
+    pub fn push(&mut self, datagram: &[u8]) -> Result<(), Full>
+        ensures answer { result ≡ room (takes (waiting self.old) datagram.now) }
+        ensures after { waiting self.new ≡ (if takes (waiting self.old) datagram.now then waiting self.old ++ datagram.now ∷ [] else waiting self.old) }
     {
-        if !self.has_room(datagram) {
-            return false;
+        if !is_sized(datagram.len()) {
+            return Err(Full);
         }
-        self.put(datagram);
-        true
+        self.bytes.extend(datagram)?;
+        self.lens.push(datagram.len() as u16)
     }
 
     // Lays a message behind the last datagram if that stays within 4,096 bytes, else puts it last as a new one. What push
     // refuses is refused here too.
-    pub fn join(&mut self, message: &[u8]) -> bool
-        ensures answer { result ≡ takes (waiting self.old) message.now }
-        ensures after { waiting self.new ≡ (if result then joined (waiting self.old) message.now else waiting self.old) }
+    pub fn join(&mut self, message: &[u8]) -> Result<(), Full>
+        ensures answer { result ≡ room (takes (waiting self.old) message.now) }
+        ensures after { waiting self.new ≡ (if takes (waiting self.old) message.now then joined (waiting self.old) message.now else waiting self.old) }
     {
-        if !self.has_room(message) {
-            return false;
+        if !self.may_grow(message.len()) {
+            return self.push(message);
         }
-        if self.last_takes(message.len()) {
-            self.grow(message);
-        } else {
-            self.put(message);
-        }
-        true
+        self.bytes.extend(message)?;
+        lengthen(&mut self.lens, message.len() as u16);
+        Ok(())
     }
 
     // Puts all the datagrams of another queue last, in their order, or none where they have no room.
-    pub fn append(&mut self, other: &Queue) -> bool
-        ensures answer { result ≡ nat_le (bulk (waiting self.old) + bulk (waiting other.now)) 16384 }
-        ensures after { waiting self.new ≡ (if result then waiting self.old ++ waiting other.now else waiting self.old) }
+    pub fn append(&mut self, other: &Queue) -> Result<(), Full>
+        ensures answer { result ≡ room (nat_le (bulk (waiting self.old) + bulk (waiting other.now)) 16384) }
+        ensures after { waiting self.new ≡ (if nat_le (bulk (waiting self.old) + bulk (waiting other.now)) 16384 then waiting self.old ++ waiting other.now else waiting self.old) }
     {
-        if self.used + other.used > ROOM {
-            return false;
-        }
-        place(&mut self.bytes, self.used, &other.bytes[0..other.used]);
-        place(&mut self.lens, self.count, &other.lens[0..other.count]);
-        self.count += other.count;
-        self.used += other.used;
-        true
+        self.bytes.extend(other.bytes.as_slice())?;
+        self.lens.extend(other.lens.as_slice())
     }
 
     // Takes the first datagram off and lays it over the front of out. Where none waits, or it does not fit, nothing is
@@ -89,55 +87,31 @@ impl Queue {
         ensures after { waiting self.new ≡ behind (length out.old) (waiting self.old) }
         ensures out { out.new ≡ fronted (waiting self.old) out.old }
     {
-        if self.count == 0 {
+        let len = usize::from(self.lens.get(0)?);
+        if out.len() < len {
             return None;
         }
-        let len = usize::from(self.lens[0]);
-        if len > out.len() {
-            return None;
-        }
-        hand(&mut self.bytes, len, out);
-        shift(&mut self.lens);
-        self.count -= 1;
-        self.used -= len;
+        out[..len].copy_from_slice(&self.bytes.as_slice()[..len]);
+        self.bytes.drop_front(len);
+        self.lens.drop_front(1);
         Some(len)
     }
 
-    // Whether a datagram may wait too.
-    fn has_room(&self, datagram: &[u8]) -> bool
-        ensures { result ≡ takes (waiting self.now) datagram.now }
+    // Whether a message of so many bytes goes behind the last datagram.
+    fn may_grow(&self, len: usize) -> bool
+        ensures { let ns = values self.now.lens in result ≡ ((nat_le 16 len && nat_le len 4096) && (nat_lt 0 (length ns) && nat_le (get_or ns (length ns - 1) 0 + len) 4096)) }
     {
-        may_wait(self.used, datagram.len())
+        is_sized(len) && self.last_takes(len)
     }
 
     // Whether the last datagram, if there is one, may have so many bytes more.
     fn last_takes(&self, len: usize) -> bool
         requires { len ≤ 4096 }
-        ensures { result ≡ (nat_lt 0 self.now.count && nat_le (slice_index self.now.lens (self.now.count - 1) + len) 4096) }
+        ensures { let ns = values self.now.lens in result ≡ (nat_lt 0 (length ns) && nat_le (get_or ns (length ns - 1) 0 + len) 4096) }
     {
-        self.count > 0 && usize::from(self.lens[self.count - 1]) + len <= LONGEST
-    }
-
-    // Puts a datagram last.
-    fn put(&mut self, datagram: &[u8])
-        requires { (16 ≤ length datagram.now) × ((length datagram.now ≤ 4096) × (self.old.used + length datagram.now ≤ 16384)) }
-        ensures { waiting self.new ≡ waiting self.old ++ datagram.now ∷ [] }
-    {
-        let len = datagram.len();
-        place(&mut self.bytes, self.used, datagram);
-        self.lens[self.count] = len as u16;
-        self.count += 1;
-        self.used += len;
-    }
-
-    // Lays a message behind the last datagram.
-    fn grow(&mut self, message: &[u8])
-        requires { (0 < self.old.count) × ((slice_index self.old.lens (self.old.count - 1) + length message.now ≤ 4096) × (self.old.used + length message.now ≤ 16384)) }
-        ensures { waiting self.new ≡ joined (waiting self.old) message.now }
-    {
-        let len = message.len();
-        place(&mut self.bytes, self.used, message);
-        self.lens[self.count - 1] += len as u16;
-        self.used += len;
+        self.lens
+            .as_slice()
+            .last()
+            .is_some_and(|last| usize::from(*last) + len <= LONGEST)
     }
 }

@@ -1,9 +1,10 @@
-ghost use Rattle.std.specs.Prelude.{◌≡◌, [], length, MatchOption};
+ghost use Rattle.std.specs.Prelude.{◌≡◌, [], length, slice_get};
 ghost use Rattle.reader.specs.Replies.{said, kept};
-ghost use Rattle.reader.specs.Matches.{matches_of, pushed, nth};
+ghost use Rattle.reader.specs.Matches.{matches_of, pushed};
 
 use super::{Match, MatchTable};
 use crate::fault::TurnFault;
+use capped::list::Capped;
 
 const BLANK: Match = Match {
     priority: 0,
@@ -15,26 +16,28 @@ impl MatchTable {
         ensures { matches_of result ≡ [] }
     {
         MatchTable {
-            rows: [BLANK; 64],
-            len: 0,
+            rows: Capped::new(BLANK),
         }
     }
 
     pub fn len(&self) -> usize
         ensures { result ≡ length (matches_of self.now) }
     {
-        self.len
+        self.rows.len()
+    }
+
+    // The matches, in the order in which they came.
+    pub fn as_slice(&self) -> &[Match]
+        ensures { result.now ≡ matches_of self.now }
+    {
+        self.rows.as_slice()
     }
 
     // The match at a place, or none behind the last.
     pub fn get(&self, place: usize) -> Option<Match>
-        ensures { result ≡ nth (matches_of self.now) place }
+        ensures { result ≡ slice_get (matches_of self.now) place }
     {
-        if place < self.len {
-            Some(self.rows[place])
-        } else {
-            None
-        }
+        self.rows.get(place)
     }
 
     // Adds a match behind the others; a 65th is refused, and the table is as it was.
@@ -42,11 +45,6 @@ impl MatchTable {
         ensures said { result ≡ said (pushed (matches_of self.old) found) }
         ensures kept { matches_of self.new ≡ kept (matches_of self.old) (pushed (matches_of self.old) found) }
     {
-        if self.len == 64 {
-            return Err(TurnFault::TooManyMatches);
-        }
-        self.rows[self.len] = found;
-        self.len += 1;
-        Ok(())
+        self.rows.push(found).map_err(|_| TurnFault::TooManyMatches)
     }
 }

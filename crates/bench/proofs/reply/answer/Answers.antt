@@ -6,7 +6,8 @@ use Rattle.bench.proofs.reply.answer.Goals as goal
 
 pub returns : goal.returns
 returns c =
-    answer_laid c.args.request.now c.args.status _ _ c.header.result _ c.header.ensures
-    (ap (λ (s : ℤ). record { status = s; header = c.in-Some.asked }) (to_z-of_z w32 c.args.status c.ranges.status)
-    ∙ ap (λ (h : Nlmsghdr). record { status = c.args.status; header = h }) c.in-Some.ensures.1)
+    let d = rw c.unwrap.ensures at c.decode.ensures in
+    answer_laid c.args.request.bytes.now c.args.status _ _ c.header.result _ c.header.ensures
+    (ap (λ (s : ℤ). record { status = s; header = c.unwrap.result.0 }) (to_z-of_z w32 c.args.status c.ranges.status)
+    ∙ ap (λ (h : Nlmsghdr). record { status = c.args.status; header = h }) d.1)
     c.put.ensures c.put-2.ensures

@@ -6,7 +6,7 @@ use Rattle.filters.specs.Held.{held}
 use Rattle.bench.proofs.Listing.{onwards}
 use Rattle.bench.proofs.reply.list.Given as goal
 
-abbrev pub invariant-loop-i : goal.invariant-loop-i
-invariant-loop-i l =
-    (onwards l.interface (bits_of l.parent) (waiting l.reply) (drop l.i (held l.filters)) ≡ onwards l.interface (bits_of l.parent) [] (held l.filters))
-    × (bulk (waiting l.reply) ≤ 324 * l.i)
+abbrev pub invariant-loop-row : goal.invariant-loop-row
+invariant-loop-row l =
+    (onwards l.hook.interface (bits_of l.hook.parent) (waiting l.reply) (drop l.row-index (held l.filters)) ≡ onwards l.hook.interface (bits_of l.hook.parent) [] (held l.filters))
+    × (bulk (waiting l.reply) ≤ 324 * l.row-index)

@@ -1,28 +1,34 @@
 use Rattle.std.proofs.Common.{◌∙◌}
 use Rattle.std.proofs.lemmas.Result.{err_from_is_err_and}
-use Rattle.reader.proofs.Attributing.{shorter}
-use Rattle.reader.proofs.Visiting.{seen_ok, seen_err, visit_more, visit_fault, visit_broken, visit_end, told_err}
+use Rattle.reader.specs.Visits.{through}
+use Rattle.reader.proofs.Visiting.{visit_more, visit_fault, visit_broken, visit_end, told_err}
 use Rattle.reader.proofs.visit.visit.Goals as goal
-
-pub loop-next-smaller : goal.loop-next-smaller
-loop-next-smaller g c = shorter _ _ _ (seen_ok _ _ _ _ c.in-Some.ensures.step c.in_ok-attr.was)
 
 pub loop-next-preserved : goal.loop-next-preserved
 loop-next-preserved g c =
-    let came = seen_ok _ _ _ _ c.in-Some.ensures.step c.in_ok-attr.was in
-    visit_more g.V.Visitor.met _ _ _ _ _ _ _ _ c.loop-next.invariant came c.meet.ensures c.in_ok-meet.was
+    let v = g.V.Visitor.view in
+    let comes = visit_more g.V.Visitor.met (through g.V.Visitor.met (v c.args.visitor.now) c.args.row.now) (v c.loop-next.visitor)
+    c.loop-next.invariant.comes c.in-Some.ensures.steps (v c.meet.new.self) c.in_ok-attr.was c.meet.ensures c.in_ok-meet.was in
+    record { can = tt; ends = tt; comes = comes }
 
 pub returns-in_err-meet : goal.returns-in_err-meet
 returns-in_err-meet g c =
-    let came = seen_ok _ _ _ _ c.in-Some.ensures.step c.in_ok-attr.was in
+    let v = g.V.Visitor.view in
     let p = err_from_is_err_and c.from_residual-in_err-meet.result c.from_residual-in_err-meet.ensures.1 in
-    visit_fault g.V.Visitor.met _ _ _ _ _ _ _ _ c.loop-next.invariant came c.meet.ensures c.in_err-meet.was ∙ told_err _ _ _ _ p.1 p.2
+    visit_fault g.V.Visitor.met (through g.V.Visitor.met (v c.args.visitor.now) c.args.row.now) (v c.loop-next.visitor)
+    c.loop-next.invariant.comes c.in-Some.ensures.steps (v c.meet.new.self) c.in_ok-attr.was c.meet.ensures c.in_err-meet.was
+    ∙ told_err _ p.1 p.2
 
 pub returns-in_err-attr : goal.returns-in_err-attr
 returns-in_err-attr g c =
+    let v = g.V.Visitor.view in
     let p = err_from_is_err_and c.from_residual.result c.from_residual.ensures.1 in
-    let e = seen_err _ _ _ _ c.in-Some.ensures.step c.in_err-attr.was in
-    visit_broken g.V.Visitor.met _ _ _ _ c.loop-next.invariant e ∙ told_err _ _ _ _ p.1 p.2
+    visit_broken g.V.Visitor.met (through g.V.Visitor.met (v c.args.visitor.now) c.args.row.now) (v c.loop-next.visitor)
+    c.loop-next.invariant.comes c.in-Some.ensures.steps c.in_err-attr.was
+    ∙ told_err _ p.1 p.2
 
 pub returns : goal.returns
-returns g c = visit_end g.V.Visitor.met _ _ _ c.loop-next.invariant c.in_default.ensures.step
+returns g c =
+    let v = g.V.Visitor.view in
+    visit_end g.V.Visitor.met (through g.V.Visitor.met (v c.args.visitor.now) c.args.row.now) (v c.loop-next.visitor) c.loop-next.next-iterator.rest.now
+    c.loop-next.invariant.comes c.in-None.ensures.steps.step

@@ -1,17 +1,7 @@
-use Rattle.std.proofs.Common.{ℕ, ◌+◌, ◌≤◌, List, length, drop, ap, ◌∙◌, arith}
-use Rattle.records.proofs.Pieces.{rest_kept, rest_written, rest_length}
+use Rattle.std.proofs.Common.{◌≡◌, ℕ, ◌+◌, List, ◌++◌, take, drop, ap, ◌∙◌, arith}
+use Rattle.std.proofs.lemmas.List.{drop-drop}
 use Rattle.records.proofs.Reading.{back_at}
 use Rattle.records.proofs.record.write.Goals as goal
-
-pub returns-in_default : goal.returns-in_default
-returns-in_default g c =
-    let e = c.in_default.ensures in
-    (omega (arith, e.0, rest_length c.args.out.now c.args.at), rest_kept c.args.out.now _ c.args.at c.if-out-at.false e.1)
-
-pub overflow_add-result : goal.overflow_add-result
-overflow_add-result g c =
-    let e = c.in-Some.ensures in
-    omega (arith, e.0, e.1, rest_length c.args.out.now c.args.at)
 
 pub returns : goal.returns
 returns g c =
@@ -20,13 +10,17 @@ returns g c =
     let xs = c.args.out.now in
     let at = c.args.at in
     let x = c.args.record.now in
-    let e = c.in-Some.ensures in
-    let f : at + r.wide ≤ length xs = omega (arith, e.1, rest_length xs at) in
-    let w = rest_written xs _ at c.if-out-at.false (r.bytes x) r.wide (m.sized x) f e.2 in (
+    let p = c.in_ok-out.ensures.cases in
+    let e = c.in_ok-taken.ensures in
+    let front = p.2 in
+    let rest = p.3 in
+    let all = e.2 in
+    let d = drop-drop r.wide at xs in
+    let w : c.in_ok-out.field-0-0.now ++ c.encode.new.out ≡ take at xs ++ (r.bytes x ++ drop (at + r.wide) xs) = cc in (
       ap (λ (z : ℕ). at + z) e.0,
-      omega (arith, e.0),
+      omega (arith, e.0, e.1, p.4),
       e.3,
       w,
       ap (λ (z : List ℕ). r.of (drop at z)) w
-          ∙ back_at r.wide r.bytes r.of r.fits m.sized m.decodes m.encodes m.front x xs _ at e.3 c.if-out-at.false,
+          ∙ back_at r.wide r.bytes r.of r.fits m.sized m.decodes m.front x xs _ at e.3 (omega (arith, p.4)),
     )

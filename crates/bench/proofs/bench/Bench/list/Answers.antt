@@ -7,4 +7,4 @@ use Rattle.bench.proofs.bench.Bench.list.Goals as goal
 pub reply-requires : goal.reply-requires
 reply-requires c =
     let t = c.args.self.now.filters in
-    whole_listing c.args.interface (bits_of c.args.parent) (held t) _ (held_stand t) c.list-reply.ensures
+    whole_listing c.args.hook.interface (bits_of c.args.hook.parent) (held t) _ (held_stand t) c.list-reply.ensures

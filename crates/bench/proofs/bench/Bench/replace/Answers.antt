@@ -5,7 +5,7 @@ use Rattle.filters.proofs.Finding.{held_stand}
 use Rattle.bench.specs.Granting.{held_stands, row_there}
 use Rattle.bench.proofs.bench.Bench.replace.Goals as goal
 
-pub unreachable-requires : goal.unreachable-requires
-unreachable-requires c =
+pub unwrap-row-requires : goal.unwrap-row-requires
+unwrap-row-requires c =
     let t = c.args.self.now.filters in
-    row_there _ _ (held_stands (key_of c.args.key) (held t) c.args.name.now (held_stand t) (sym c.if-not-has_bpf.ensures) c.requires.1) c.in_default.ensures
+    row_there _ _ _ _ (held_stands (key_of c.args.key) (held t) c.args.name.now (held_stand t) (sym c.if-not-has_bpf.ensures) c.requires) c.bpf_row.ensures

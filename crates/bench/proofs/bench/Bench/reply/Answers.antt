@@ -10,5 +10,5 @@ invariant_of-self c =
     record {
       whole =
           ap (λ (ws : List (List ℕ)). all_datagrams ws) c.append.ensures.after
-          ∙ whole_either c.append.result (waiting b.queue) (waiting c.args.reply.now) b.whole c.requires;
+          ∙ whole_either _ (waiting b.queue) (waiting c.args.reply.now) b.whole c.requires;
     }

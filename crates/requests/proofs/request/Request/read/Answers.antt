@@ -1,25 +1,18 @@
-use Rattle.std.proofs.Common.{Some, ap}
+use Rattle.std.proofs.Common.{refl}
+use Rattle.std.proofs.lemmas.Slice.Eq.{slice_eq-Decides}
+use Rattle.std.proofs.lemmas.Bool.Decides.{Decides-eqb}
 use Rattle.requests.specs.Asks.{asks}
-use Rattle.requests.proofs.Finding.{not_refused, is_written, not_other}
+use Rattle.requests.proofs.Finding.{not_none, kept}
 use Rattle.requests.proofs.request.Request.read.Goals as goal
 
-pub returns-in_default-write : goal.returns-in_default-write
-returns-in_default-write c = record { some = tt; each = λ x w. absurd (not_refused c.args.bytes.now (asks c.in-Some.request) c.in-Some.ensures.0 c.in_default-write.field-0 c.in_default-write.ensures.result x w) }
+pub returns-in_err-n : goal.returns-in_err-n
+returns-in_err-n c =
+    rw c.from_residual-in_err-n.ensures
+    (record { some = tt; each = λ x w. absurd (not_none c.args.bytes.now (asks c.in_ok-request.request) c.in_ok-request.ensures.0 c.write.result c.in_err-n.ensures.value c.write.ensures.written.result x w) })
 
-pub returns-then-same : goal.returns-then-same
-returns-then-same c =
-    let y = asks c.in-Some.request in
-    let only = c.in-Some.ensures.0 in
-    record {
-      some = is_written c.args.bytes.now y only c.in-Ok.n _ _ c.in-Ok.ensures.result c.in-Ok.ensures.after c.in-Some.ensures.1 c.if-same.ensures;
-      each = λ x w. ap Some (only x w);
-    }
-
-pub returns-else-same : goal.returns-else-same
-returns-else-same c =
-    let y = asks c.in-Some.request in
-    let only = c.in-Some.ensures.0 in
-    record {
-      some = tt;
-      each = λ x w. absurd (not_other c.args.bytes.now y only c.in-Ok.n _ _ c.in-Ok.ensures.result c.in-Ok.ensures.after c.if-same.ensures x w);
-    }
+pub returns : goal.returns
+returns c =
+    let q = c.in_ok-request.request in
+    let k = kept c.args.bytes.now (asks q) c.in_ok-request.ensures.0 c.write.result c.in_ok-n.n c.in_ok-n.ensures.value _ _ c.write.ensures.written.result c.write.ensures.written.after q refl c.in_ok-request.ensures.1 c.eq.result
+    (slice_eq-Decides Decides-eqb _ _ _ c.eq.ensures) in
+    rw c.then_some.ensures (record { some = k.0; each = k.1 })

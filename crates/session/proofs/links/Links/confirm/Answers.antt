@@ -1,41 +1,26 @@
-use Rattle.std.proofs.Common.{List, sym, refl, ap, ◌∙◌}
-use Rattle.std.proofs.lemmas.List.{length-set}
+use Rattle.std.proofs.Common.{Option, map, sym, ap, ◌∙◌, refl}
+use Rattle.std.specs.Option.{option_map}
 use Rattle.requests.specs.Asks.{key_of}
-use Rattle.hosts.proofs.Keyed.{distinct_altered, untaken_altered}
-use Rattle.hosts.proofs.Stored.{place_found, place_missed, set_stored}
-use Rattle.session.specs.Linked.{Link, link_of, apart, with_descriptor}
+use Rattle.keyed.specs.Keyed.{altered}
+use Rattle.keyed.proofs.Altering.{unfound, replaced_altered}
+use Rattle.keyed.proofs.Keyed.{untaken_altered}
+use Rattle.session.specs.Linked.{Link, link_of, with_descriptor}
 use Rattle.session.specs.Held.{links_of}
-use Rattle.session.proofs.Linking.{roomy}
 use Rattle.session.proofs.links.Links.confirm.Goals as goal
 
-pub invariant_of-self : goal.invariant_of-self
-invariant_of-self c =
-    let t = c.args.self.now in
-    let k = key_of c.args.key in
-    let i = c.place-i.result in
-    let d = with_descriptor c.args.descriptor in
-    let b = place_found link_of (λ (l : Link). l.key) t.rows t.len (roomy t) k i c.place-i.ensures c.if-i-self.true in (
-      (t.ok.0, length-set t.rows i c.with_descriptor-link.result ∙ t.ok.1),
-      (
-        ap (λ (ls : List Link). apart ls)
-            (set_stored link_of (λ (l : Link). l.key) t.rows t.len (roomy t) k i c.place-i.ensures d _ c.with_descriptor-link.result t.differ b c.with_descriptor-link.ensures)
-            ∙ distinct_altered (λ (l : Link). l.key) k d (λ l. refl) (links_of t) t.differ,
-        tt,
-      ),
-    )
+pub returns-in-Some : goal.returns-in-Some
+returns-in-Some c =
+    let t = c.args.self.now.table in
+    let ls = links_of c.args.self.now in
+    let l = link_of c.in-Some.link in
+    let f = sym c.find.ensures ∙ ap (λ (o : Option _). option_map link_of o) c.in-Some.is in
+    c.replace.ensures.after
+    ∙ ap (λ (x : Link). map (altered (λ (y : Link). y.key) x.key (λ _. x)) ls) c.with_descriptor.ensures
+    ∙ replaced_altered (λ (y : Link). y.key) (key_of c.args.key) (with_descriptor c.args.descriptor) l ls t.differ f refl
 
-pub returns-then-i-self : goal.returns-then-i-self
-returns-then-i-self c =
-    let t = c.args.self.now in
-    let k = key_of c.args.key in
-    let i = c.place-i.result in
-    let b = place_found link_of (λ (l : Link). l.key) t.rows t.len (roomy t) k i c.place-i.ensures c.if-i-self.true in
-    set_stored link_of (λ (l : Link). l.key) t.rows t.len (roomy t) k i c.place-i.ensures (with_descriptor c.args.descriptor) _ c.with_descriptor-link.result t.differ b
-    c.with_descriptor-link.ensures
-
-pub returns-else-i-self : goal.returns-else-i-self
-returns-else-i-self c =
-    let t = c.args.self.now in
-    let k = key_of c.args.key in
-    sym (untaken_altered (λ (l : Link). l.key) k (with_descriptor c.args.descriptor) (links_of t)
-    (place_missed link_of (λ (l : Link). l.key) t.rows t.len (roomy t) k c.place-i.result c.place-i.ensures c.if-i-self.false))
+pub returns-in_default : goal.returns-in_default
+returns-in_default c =
+    let ls = links_of c.args.self.now in
+    let f = sym c.find.ensures ∙ ap (λ (o : Option _). option_map link_of o) c.in_default.is in
+    let n = unfound (λ (y : Link). y.key) (key_of c.args.key) ls f in
+    sym (untaken_altered (λ (y : Link). y.key) (key_of c.args.key) (with_descriptor c.args.descriptor) ls n)

@@ -1,0 +1,51 @@
+-- The bpf filter of a key. Assumes nothing.
+use Rattle.std.proofs.Common.{◌≡◌, Bool, true, false, cond, not, ◌&&◌, ◌||◌, List, [], ◌∷◌, Some, None, Option, refl, ap, ◌∙◌, arith}
+use Rattle.std.specs.Option.{is_some, option_map}
+use Rattle.std.specs.Str.{bytes_eq}
+use Rattle.requests.specs.Asks.{Key}
+use Rattle.hosts.specs.Meaning.{Filter, bpf}
+use Rattle.hosts.specs.Rules.{same_key}
+use Rattle.keyed.specs.Rows.{found}
+use Rattle.keyed.proofs.Keyed.{or_left, or_right, and_right, alone}
+use Rattle.filters.specs.Keys.{taken, distinct, is_bpf, only_bpf, bpf_of}
+
+abbrev pub key : Filter → Key
+key f = f.key
+
+untaken_bpf : (k : Key) (fs : List Filter) → taken k fs ≡ false → is_bpf k fs ≡ false
+untaken_bpf k [] e = refl
+untaken_bpf k (f ∷ fs) e =
+    let a = or_left (same_key k f.key) _ e in
+    let b = untaken_bpf k fs (or_right (same_key k f.key) _ e) in
+    cc
+
+-- whether there is one, and which
+pub is_bpf_of : (k : Key) (fs : List Filter) → distinct fs ≡ true → is_some (bpf_of k fs) ≡ is_bpf k fs
+is_bpf_of k [] d = refl
+is_bpf_of k (f ∷ fs) d =
+    step (same_key k f.key) (bytes_eq f.kind bpf) (λ p. untaken_bpf k fs (alone key k f fs d p)) (is_bpf_of k fs (and_right (not (taken f.key fs)) _ d))
+  where
+    step : (a b : Bool) → (a ≡ true → is_bpf k fs ≡ false) → is_some (bpf_of k fs) ≡ is_bpf k fs →
+        is_some (only_bpf (cond a (Some f) (found key k fs))) ≡ ((a && bytes_eq f.kind bpf) || is_bpf k fs)
+    step true b h i = kind (bytes_eq f.kind bpf) (h refl)
+      where
+        kind : (c : Bool) → is_bpf k fs ≡ false → is_some (cond c (Some f) None) ≡ (c || is_bpf k fs)
+        kind true h = refl
+        kind false h = grind arith
+    step false b h i = i
+
+pub bpf_there : (o : Option Filter) (f : Filter) → only_bpf o ≡ Some f → (o ≡ Some f) × (bytes_eq f.kind bpf ≡ true)
+bpf_there None f e = grind arith
+bpf_there (Some g) f e = step (bytes_eq g.kind bpf) refl e
+  where
+    step : (b : Bool) → bytes_eq g.kind bpf ≡ b → cond b (Some g) None ≡ Some f → (Some g ≡ Some f) × (bytes_eq f.kind bpf ≡ true)
+    step true h n = let e : f ≡ g = grind arith in (n, ap (λ (x : Filter). bytes_eq x.kind bpf) e ∙ h)
+    step false h n = grind arith
+
+pub mapped_some : {X Y : Type 0} (f : X → Y) (o : Option X) → is_some o ≡ is_some (option_map f o)
+mapped_some f None = refl
+mapped_some f (Some x) = refl
+
+pub told_apart : {X : Type 0} (b : Bool) (x y : X) → Some x ≡ cond b (Some y) None → x ≡ y
+told_apart true x y e = grind arith
+told_apart false x y e = grind arith

@@ -1,0 +1,43 @@
+use Rattle.std.proofs.Common.{◌≡◌, Option, map, Some, sym, ap, ◌∙◌, refl, arith}
+use Rattle.std.specs.Option.{is_some, option_map}
+use Rattle.std.proofs.lemmas.Grind.{common_steps}
+use Rattle.requests.specs.Asks.{key_of}
+use Rattle.hosts.specs.Meaning.{Filter}
+use Rattle.keyed.specs.Keyed.{altered}
+use Rattle.keyed.proofs.Altering.{replaced_altered}
+use Rattle.filters.specs.Keys.{is_bpf, bpf_of, named}
+use Rattle.filters.specs.Rows.{meaning}
+use Rattle.filters.specs.Held.{held}
+use Rattle.filters.proofs.Bpf.{key, mapped_some, is_bpf_of, bpf_there, told_apart}
+use Rattle.filters.proofs.store.Filters.rename.Goals as goal
+
+pub returns-in_err-row-clause-answer : goal.returns-in_err-row-clause-answer
+returns-in_err-row-clause-answer c =
+    let k = key_of c.args.key in
+    let fs = held c.args.self.now in
+    let t : is_some c.bpf.result ≡ is_bpf k fs =
+    mapped_some meaning c.bpf.result ∙ ap (λ (o : Option Filter). is_some o) c.bpf.ensures ∙ is_bpf_of k fs c.args.self.now.table.differ in
+    grind (arith, common_steps)
+
+pub returns-clause-answer : goal.returns-clause-answer
+returns-clause-answer c =
+    let k = key_of c.args.key in
+    let fs = held c.args.self.now in
+    let t : is_some c.bpf.result ≡ is_bpf k fs =
+    mapped_some meaning c.bpf.result ∙ ap (λ (o : Option Filter). is_some o) c.bpf.ensures ∙ is_bpf_of k fs c.args.self.now.table.differ in
+    grind (arith, common_steps)
+
+pub returns-clause-after : goal.returns-clause-after
+returns-clause-after c =
+    let k = key_of c.args.key in
+    let fs = held c.args.self.now in
+    let f = meaning c.in_ok-row.row in
+    let b : c.bpf.result ≡ Some c.in_ok-row.row = grind (arith, common_steps) in
+    let o : bpf_of k fs ≡ Some f = sym c.bpf.ensures ∙ ap (λ (o : Option _). option_map meaning o) b in
+    let p = bpf_there _ f o in
+    let q : c.renamed.result ≡ Some c.unwrap-named.result = grind (arith, common_steps) in
+    let r : option_map meaning c.renamed.result ≡ Some (meaning c.unwrap-named.result) = ap (λ (o : Option _). option_map meaning o) q in
+    let m : meaning c.unwrap-named.result ≡ named f c.args.name.now = told_apart _ _ _ (sym r ∙ c.renamed.ensures) in
+    c.replace.ensures.after
+    ∙ ap (λ (x : Filter). map (altered key x.key (λ _. x)) fs) m
+    ∙ replaced_altered key k (λ (x : Filter). named x c.args.name.now) f fs c.args.self.now.table.differ p.0 refl

@@ -1,4 +1,0 @@
-pub mod Keyed
-pub mod Rowed
-pub mod Stored
-mod Recordings

@@ -1,0 +1,3 @@
+pub mod Altering
+pub mod Keyed
+mod Placing

@@ -1,0 +1,4 @@
+#![tactic(auto)]
+
+pub mod row;
+pub mod table;
