@@ -1,9 +1,9 @@
 -- A reply that has room, and the effect behind it; one that has none. Assumes nothing.
-use Rattle.std.proofs.Common.{◌≡◌, ℕ, Bool, true, false, cond, List, [], ◌∷◌, ◌++◌, ℤ, pos, Some, None, Ok, Err, Result, sym, refl, ap, ◌∙◌, arith}
+use Rattle.std.proofs.Common.{◌≡◌, ℕ, Bool, true, false, cond, List, [], ◌∷◌, ◌++◌, ℤ, pos, Some, Ok, Err, Result, sym, refl, ap, ◌∙◌, arith}
 use Rattle.requests.specs.Asks.{Key}
 use Rattle.hosts.specs.Events.{Answer}
 use Rattle.hosts.specs.Meaning.{Filter}
-use Rattle.filters.specs.Fitting.{is_filter}
+use Rattle.filters.specs.Fitting.{is_filter, standing}
 use Rattle.filters.specs.Keys.{admitted, added}
 use Rattle.filters.specs.declared.refusal.Refusal.{Refusal}
 use Rattle.bench.specs.Serving.{Outcome, echoed, granted, named, attaching}
@@ -51,7 +51,7 @@ module _ (o p : Outcome) (s t : State) (same : o.reply ≡ p.reply) where
 
 -- what an attach that is admitted comes to
 module _ (k g : Key) (name q : List ℕ) (fs : List Filter) (f : Filter) (e : g ≡ granted k fs)
-    (m : Some f ≡ cond (is_filter (named g name)) (Some (named g name)) None) (a : Ok tt ≡ admitted g fs) where
+    (m : Some f ≡ standing (named g name)) (a : Ok tt ≡ admitted g fs) where
   is : f ≡ named g name
   is = (made (is_filter (named g name)) (named g name) f m).1
 

@@ -3,7 +3,7 @@ use Rattle.std.proofs.Common.{◌≡◌, ℕ, Bool, true, false, cond, List, ◌
 use Rattle.requests.specs.Asks.{Key, key_of}
 use Rattle.requests.specs.declared.request.Key.{Key as CodeKey}
 use Rattle.hosts.specs.Meaning.{Filter}
-use Rattle.filters.specs.Fitting.{is_filter, filter_with}
+use Rattle.filters.specs.Fitting.{is_filter, standing, filter_with}
 use Rattle.filters.specs.Keys.{admitted, added}
 use Rattle.filters.specs.declared.refusal.Refusal.{Refusal}
 use Rattle.filters.specs.declared.refusal.Refusal.TheVariants.{Invalid}
@@ -21,7 +21,7 @@ made true f g e = (refl, cc)
 made false f g e = let z : ◌≡◌ {A = ℕ} 0 1 = cc in absurd (omega arith)
 
 module _ (w : Filter) (g : Key) (fs : List Filter) (f : Filter) (r : Result (Unit {0}) Refusal) (e : g ≡ granted w.key fs)
-    (m : Some f ≡ cond (is_filter (filter_with g w.kind w.name)) (Some (filter_with g w.kind w.name)) None) (a : r ≡ admitted f.key fs) where
+    (m : Some f ≡ standing (filter_with g w.kind w.name)) (a : r ≡ admitted f.key fs) where
   is : (is_filter (filter_with g w.kind w.name) ≡ true) × (f ≡ filter_with g w.kind w.name)
   is = made (is_filter (filter_with g w.kind w.name)) (filter_with g w.kind w.name) f m
 

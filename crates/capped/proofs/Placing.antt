@@ -1,13 +1,33 @@
 -- Places in the cells of a list. Assumes nothing.
-use Rattle.std.proofs.Common.{◌≡◌, ℕ, zero, suc, ◌+◌, ◌-◌, ◌<◌, ◌≤◌, List, [], ◌∷◌, ◌++◌, length, take, drop, Some, slice_get, sym, ap, ◌∙◌, arith}
+use Rattle.std.proofs.Common.{◌≡◌, ℕ, zero, suc, ◌+◌, ◌-◌, ◌<◌, ◌≤◌, List, [], ◌∷◌, ◌++◌, length, take, drop, Some, slice_get, slice_set, None, refl, sym, ap, ◌∙◌, arith}
 use Rattle.std.specs.List.{remove}
+use Rattle.capped.specs.Values.{values}
+use Rattle.capped.specs.declared.list.Capped.{Capped}
+use Rattle.std.proofs.lemmas.Option.{slice_get_within}
 use Rattle.std.proofs.lemmas.List.{append_assoc, drop-drop, drop-take, length-append, length-drop, length-take-le, take_at, take-take, take-append-le}
 
--- where a value is found, there is one
-pub inside : {X : Type 0} (xs : List X) (i : ℕ) (x : X) → slice_get xs i ≡ Some x → i < length xs
-inside [] i x e = grind arith
-inside (y ∷ xs) zero x e = omega arith
-inside (y ∷ xs) (suc i) x e = let h = inside xs i x e in omega arith
+-- a place that holds a value is before the end, and the end is within the cells
+pub record Held (i len size n : ℕ) : Type 0 where
+  pub before : i < len
+  pub within : len ≤ size
+  pub whole : size ≡ n
+
+pub found : {T : Type 0} {N : ℕ} (c : Capped T N) (i : ℕ) (x : T) → slice_get (values c) i ≡ Some x → Held i c.len (length c.cells) N
+found c i x e =
+    let l : c.len ≤ length c.cells = omega (arith, c.within.0, c.within.1) in
+    record { before = omega (arith, slice_get_within (values c) i x e, length-take-le c.len c.cells l); within = l; whole = c.within.1 }
+
+-- where no value is found, none is put and none is taken out
+pub unset : {X : Type 0} (xs : List X) (i : ℕ) (x : X) → slice_get xs i ≡ None → slice_set xs i x ≡ xs
+unset [] i x e = grind arith
+unset (y ∷ xs) zero x e = grind arith
+unset (y ∷ xs) (suc i) x e = ap (λ (ys : List _). y ∷ ys) (unset xs i x e)
+
+pub unremoved : {X : Type 0} (xs : List X) (i : ℕ) → slice_get xs i ≡ None → remove xs i ≡ xs
+unremoved [] zero e = refl
+unremoved [] (suc i) e = refl
+unremoved (y ∷ xs) zero e = grind arith
+unremoved (y ∷ xs) (suc i) e = ap (λ (ys : List _). y ∷ ys) (unremoved xs i e)
 
 -- the i-th of the first n moved behind them: without the last, that is the i-th removed
 module _ {X : Type 0} (xs last post : List X) (i n : ℕ) (h : i < n) (l : n ≤ length xs)

@@ -4,8 +4,9 @@ use std::alloc::AllocError;
 
 mod calls;
 
-// A list of at most N values, which lie in it: no memory beside itself. The kit's `ArrayVec` is not Copy, its clone can fail, and it
-// fills its free places by `Default`, which a row with a ghost field has not.
+// A list of at most N values, which lie in it: no memory beside itself. The kit's `ArrayVec` is not Copy, and the
+// queue and the tables of rows that stand on this list are.
+// No `impl Model`: a Copy type has none that forgets what stands where no value does.
 pub struct Capped<T, const N: usize> {
     cells: [T; N],
     len: usize,

@@ -1,5 +1,5 @@
 -- Which filters can stand on the bench host.
-use Rattle.std.specs.Prelude.{◌≡◌, ℕ, Bool, true, false, ◌&&◌, List, length, Some, None, Option, nat_le}
+use Rattle.std.specs.Prelude.{◌≡◌, ℕ, Bool, true, false, cond, ◌&&◌, List, length, Some, None, Option, nat_le}
 use Rattle.std.specs.Str.{bytes_eq}
 use Rattle.requests.specs.Asks.{Key}
 use Rattle.requests.specs.Back.{KeyFits}
@@ -21,6 +21,10 @@ abbrev pub is_filter : Filter → Bool
 is_filter f =
     passes (filter_fault f.key f.kind f.name)
     && ((nat_le 1 f.key.priority && nat_le 1 f.key.handle) && ((nat_le 1 (length f.kind) && nat_le (length f.kind) 15) && may_be_named f.kind f.name))
+
+-- the filter itself, where it can stand here
+abbrev pub standing : Filter → Option Filter
+standing f = cond (is_filter f) (Some f) None
 
 abbrev pub filter_with : Key → List ℕ → Option (List ℕ) → Filter
 filter_with key kind name = record { key = key; kind = kind; name = name }

@@ -20,9 +20,6 @@ or_left a b e = (or_parts a b e).0
 pub or_right : (a b : Bool) → (a || b) ≡ false → b ≡ false
 or_right a b e = (or_parts a b e).1
 
-pub or_else : (a b : Bool) → (a || b) ≡ true → a ≡ false → b ≡ true
-or_else a b e n = simp n at e
-
 pub either : (b : Bool) → (b ≡ true → ⊥) → b ≡ false
 either = false_from_ne_true
 

@@ -9,6 +9,7 @@ use std::alloc::AllocError;
 mod calls;
 
 // At most N rows, in the order in which they came. Keys differ.
+// No `impl Model`: a Copy type has none that forgets what stands where no value does.
 pub struct Table<R: Keyed, const N: usize> {
     rows: Capped<R, N>,
     ghost differ: { distinct R.key_in (map R.means (values rows)) ≡ true },

@@ -14,13 +14,6 @@ cut_front (n ∷ ns) b r h =
     let i = cut_front ns (drop n b) r (simp length-drop (omega arith)) in
     cc
 
-pub cut_take : (ns b : List ℕ) (u : ℕ) → total ns ≤ u → u ≤ length b → cut ns (take u b) ≡ cut ns b
-cut_take ns b u h k =
-    let l = length-take-le u b k in
-    let f = cut_front ns (take u b) (drop u b) (omega arith) in
-    let e = take-append-drop u b in
-    cc
-
 -- more pieces behind the others
 pub cut_more : (ns ms b r : List ℕ) → total ns ≤ length b → cut (ns ++ ms) (take (total ns) b ++ r) ≡ cut ns b ++ cut ms r
 cut_more [] ms b r h = refl

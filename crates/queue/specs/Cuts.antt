@@ -1,5 +1,5 @@
 -- Datagrams laid one after the other, and what the calls of a queue make of them.
-use Rattle.std.specs.Prelude.{ℕ, ◌+◌, ◌≤◌, Bool, cond, ◌&&◌, List, [], ◌∷◌, ◌++◌, length, take, drop, Some, None, Option, nat_le}
+use Rattle.std.specs.Prelude.{ℕ, ◌+◌, ◌-◌, ◌≤◌, Bool, cond, ◌&&◌, List, [], ◌∷◌, ◌++◌, length, take, drop, Some, None, Option, nat_le, get_or}
 
 abbrev pub total : List ℕ → ℕ
 total [] = 0
@@ -13,6 +13,10 @@ Sized n = (16 ≤ n) × (n ≤ 4096)
 abbrev pub cut : List ℕ → List ℕ → List (List ℕ)
 cut [] b = []
 cut (n ∷ ns) b = take n b ∷ cut ns (drop n b)
+
+-- the last of these lengths, 0 where there is none
+abbrev pub last_length : List ℕ → ℕ
+last_length ns = get_or ns (length ns - 1) 0
 
 -- the bytes of all the pieces
 abbrev pub bulk : List (List ℕ) → ℕ

@@ -1,9 +1,8 @@
 -- The texts of a row, one by one. Assumes nothing.
-use Rattle.std.proofs.Common.{◌≡◌, ℕ, suc, ◌+◌, ◌<◌, List, [], ◌∷◌, Some, None, Ok, Err, Option, Result, IfSome, MatchOption, IsTrue, option_map, slice_get, sym, refl, ap, ◌∙◌, subst, arith}
+use Rattle.std.proofs.Common.{◌≡◌, ℕ, ◌+◌, ◌<◌, List, [], ◌∷◌, Some, None, Ok, Err, Option, Result, MatchOption, IsTrue, option_map, sym, refl, ap, ◌∙◌, arith}
 use denote.Param.Members.{Mut, Called}
-use Rattle.std.specs.Iterator.{Yields, FindsMapped}
-use Rattle.std.specs.Iterator.Runs.{Run, YieldsRun, SomeRun, AllItemsGive, IsFirstToGive}
-use Rattle.std.specs.List.{FoldsTo}
+use Rattle.std.specs.Iterator.{FindsMapped}
+use Rattle.std.specs.Iterator.Runs.{SomeRun, AllItemsGive, IsFirstToGive}
 use Rattle.std.specs.Result.{result_ok}
 use Rattle.reader.specs.declared.row.NlAttrs.{NlAttrs}
 use Rattle.std.specs.Borrow.{Bor}
@@ -13,6 +12,7 @@ use Rattle.reader.specs.Rows.{attribute_step, attributes, attribute_of}
 use Rattle.reader.specs.declared.attribute.NlAttr.{NlAttr}
 use Rattle.reader.specs.declared.fault.AttributeFault.{AttributeFault}
 use Rattle.reader.proofs.Attributing.{attributes_step}
+use Rattle.reader.proofs.Firsts.{onto, found as first}
 use Rattle.reader.specs.Names.{text_in, on_text, texts_in, texts_of}
 
 pub texts_step : (b : List ℕ) (s : Step Attribute AttributeFault) → attribute_step b ≡ s → texts_of b ≡ texts_in (on_step attributes s).found
@@ -30,8 +30,7 @@ item_text (Ok a) = result_ok (text_in (attribute_of a))
 item_text (Err e) = None
 
 abbrev listed : Option (Bor (List ℕ)) → List (List ℕ) → List (List ℕ)
-listed None l = l
-listed (Some t) l = t.now ∷ l
+listed = onto (λ t l. t.now ∷ l)
 
 abbrev pub AttrsStep : NlAttrs → Option (Result NlAttr AttributeFault) → NlAttrs → Type 0
 AttrsStep s r t = Next attribute_of attribute_step s.rest.now r t.rest.now
@@ -54,36 +53,10 @@ handed s t (Err f) (Some x) n e = let z : ◌≡◌ {A = ℕ} 0 1 = cc in absurd
 ended : (s t : NlAttrs) → AttrsStep s None t → (left s ≡ []) × (left t ≡ [])
 ended s t n = let e = texts_step s.rest.now end n.step in (e, ap texts_of (n.left ∙ ap (beyond s.rest.now) n.step) ∙ e)
 
--- a closure that answers each item's text, if it is one
+-- the first text, and what is left behind it
 module _ {F : Type 0} (g : Mut F (Result NlAttr AttributeFault × Unit {0}) (Option (Bor (List ℕ))))
     (calls : (f : F) (x : Result NlAttr AttributeFault) (r : Option (Bor (List ℕ))) (q : F) → Called g f (x, tt) r q → (q ≡ f) × (option_map (λ y. y.now) r ≡ item_text x)) where
-  passed : (xs : List (Result NlAttr AttributeFault)) (s t : NlAttrs) (f q : F) → Yields AttrsStep s xs t → FoldsTo (λ p x h. Called g p (x, tt) None h) f xs q → left s ≡ left t
-  passed [] s t f q y z = ap left y
-  passed (x ∷ xs) s t f q y z = handed s y.0 x None y.1 (calls f x None z.0 z.1).1 ∙ passed xs y.0 t z.0 q y.2 z.2
-
-  none_given : (xs : List (Result NlAttr AttributeFault)) (s t : NlAttrs) (f : F) → Yields AttrsStep s xs t → ((k : ℕ) → IfSome (slice_get xs k) (λ x. Called g f (x, tt) None f)) → left s ≡ left t
-  none_given [] s t f y z = ap left y
-  none_given (x ∷ xs) s t f y z = handed s y.0 x None y.1 (calls f x None f (z 0)).1 ∙ none_given xs y.0 t f y.2 (λ k. z (suc k))
-
-  none_in : (p : Run AttrsStep) (f : F) → IsTrue p.whole → AllItemsGive p g f None → left p.from ≡ []
-  unfolding YieldsRun
-  none_in p f w a =
-      let y = p.gave.0 in
-      let each = a (λ x r q k. (calls f x.0 r q k).0) in
-      let P : Option (Result NlAttr AttributeFault) → Type 0 = λ o. IfSome o (λ x. Called g f (x, tt) None f) in
-      let e = y.2 w in
-      none_given p.items p.from y.0 f y.1 (λ k. subst P (p.gave.1 k) (each k)) ∙ (ended y.0 e.0 e.1).0
-
-  -- the first text, and what is left behind it
   pub found : (s u : NlAttrs) (f : F) (r : Option (Bor (List ℕ))) → FindsMapped AttrsStep g s f r u →
       SomeRun AttrsStep s (λ p. MatchOption r (IsTrue p.whole × AllItemsGive p g f None) (λ y. (i : ℕ) × (i < p.len) × (p.len ≡ i + 1) × IsFirstToGive p g f (Some y) None i)) →
       MatchOption r ((left s ≡ []) × (left u ≡ [])) (λ x. left s ≡ x.now ∷ left u)
-  found s u f r (xs, None, q, (t, y, n), z, e) k =
-      let P : Option (Bor (List ℕ)) → Type 0 = λ o. MatchOption o ((left s ≡ []) × (left u ≡ [])) (λ x. left s ≡ x.now ∷ left u) in
-      let d = ended t u n in
-      subst P (sym e) (passed xs s t f q y z ∙ d.0, d.1)
-  found s u f None (xs, Some x, q, (t, y, n), z, (h, e)) (p, i, w) =
-      let same = passed xs s t f q y z ∙ handed t u x None n (calls q x None h e).1 in
-      let none = ap left (sym i) ∙ none_in p f w.0 w.1 in
-      (none, sym same ∙ none)
-  found s u f (Some v) (xs, Some x, q, (t, y, n), z, (h, e)) k = passed xs s t f q y z ∙ handed t u x (Some v) n (calls q x (Some v) h e).1
+  found = first AttrsStep left [] (λ t l. t.now ∷ l) ended g (λ f x r q k. (calls f x r q k).0) (λ s t f x r q n k. handed s t x r n (calls f x r q k).1)

@@ -7,3 +7,4 @@ pub mod Handing
 pub mod Walked
 pub mod Uncutting
 pub mod Refusing
+pub mod Firsts

@@ -6,6 +6,7 @@ use records::nlmsghdr::Nlmsghdr;
 use records::numbers::NLA_TYPE_MASK;
 
 // One attribute: its header, and its payload as a part of the bytes that it was read from.
+// No `impl Model`: a Copy type with a lifetime has none.
 #[derive(Clone, Copy)]
 pub struct NlAttr<'a> {
     pub header: Nlattr,

@@ -1,9 +1,11 @@
-ghost use Rattle.std.specs.Prelude.{◌≡◌};
+ghost use Rattle.std.specs.Prelude.{◌≡◌, List, ℕ};
+ghost use Rattle.std.specs.Option.{option_copied, unwrap_or};
+ghost use Rattle.reader.specs.Classes.{class_of};
 ghost use Rattle.reader.specs.Datagrams.{messages as messages_of, message_of};
 ghost use Rattle.reader.specs.Cuts.{Uncut};
 ghost use Rattle.reader.specs.Replies.{at, took, read_of};
 ghost use Rattle.reader.specs.declared.stage.Stage.TheVariants.{Going};
-ghost use Rattle.reader.specs.Refused.{refused_row, row_behind};
+ghost use Rattle.reader.specs.Refused.{on_class, refused_row, row_behind};
 
 use crate::attribute::NetlinkMessage;
 use crate::class::Class;
@@ -27,20 +29,23 @@ fn row_behind<'a>(message: NetlinkMessage<'a>) -> &'a [u8]
     behind(message.data, before)
 }
 
+// The same, if the message refuses.
+fn row_if_refused<'a>(message: NetlinkMessage<'a>) -> Option<&'a [u8]>
+    ensures { let m = message_of message.entry in (later : List ℕ) → on_class (class_of m.kind m.payload) (row_behind m) later ≡ unwrap_or (option_copied result) later }
+{
+    match class_of(message.header.kind, message.data) {
+        Class::Refused(_) => Some(row_behind(message)),
+        _ => None,
+    }
+}
+
 // The texts of the refusal in a reply, as parts of the buffer that its last datagram was received into. On any other buffer this is
 // safe too: there may be no texts then, or others.
 pub fn texts_of(buffer: &[u8]) -> Texts<'_>
     ensures { result.row.rest.now ≡ refused_row (messages_of buffer.now).found }
 {
-    for next in Messages::new(buffer) {
-        let Ok(message) = next else {
-            break;
-        };
-        if let Class::Refused(_) = class_of(message.header.kind, message.data) {
-            return Texts::new(row_behind(message));
-        }
-    }
-    Texts::new(&[])
+    let row = Messages::new(buffer).find_map(|next| next.ok().and_then(row_if_refused));
+    Texts::new(row.unwrap_or(&[]))
 }
 
 // A whole turn whose reply is one datagram.

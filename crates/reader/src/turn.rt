@@ -61,6 +61,7 @@ impl Turn {
     }
 
     // Closes a turn whose reply could not be received to its end.
+    // It does what `unsent` does: a rule of the project asks for both calls, by which a caller says which of the two happened.
     pub fn receive_failed(mut self) -> usize
         ensures { result ≡ self.request }
     {

@@ -126,15 +126,14 @@ impl<'a> Recorded<'a> {
         requires { F.IsAlwaysCallable answer }
     {
         let mut turn = Turn::begin(0);
-        // counted here: the reply may end before the datagrams do
-        let mut taken = 0usize;
-        for datagram in &self.datagrams {
-            if turn.has_ended() {
-                break;
-            }
-            turn.take(datagram.as_slice(), &mut sink);
-            taken = taken.saturating_add(1);
-        }
+        // the reply may end before the datagrams do
+        let taken = self
+            .datagrams
+            .iter()
+            .map_while(|datagram| {
+                (!turn.has_ended()).then(|| turn.take(datagram.as_slice(), &mut sink))
+            })
+            .count();
         (taken, turn.read().and(answer(sink)))
     }
 

@@ -13,6 +13,18 @@ use std::fmt;
 // How many bytes the output buffer has where a line does not say, and the most that it may say.
 const MOST_ROOM: usize = 4096;
 
+// What a script names by a text of its own.
+trait Worded: Copy + 'static {
+    const ALL: &'static [Self];
+
+    fn text(self) -> &'static str;
+}
+
+// The one whose text this is.
+fn named<T: Worded>(text: &str) -> Option<T> {
+    T::ALL.iter().copied().find(|one| one.text() == text)
+}
+
 // What a line asks for: its first word.
 #[derive(Clone, Copy)]
 pub(crate) enum Verb {
@@ -24,8 +36,8 @@ pub(crate) enum Verb {
     Xdp,
 }
 
-impl Verb {
-    const ALL: [Verb; 6] = [
+impl Worded for Verb {
+    const ALL: &'static [Verb] = &[
         Verb::Attach,
         Verb::Replace,
         Verb::Remove,
@@ -44,7 +56,9 @@ impl Verb {
             Verb::Xdp => "xdp",
         }
     }
+}
 
+impl Verb {
     // Whether the word may follow this verb.
     fn takes(self, word: Word) -> bool {
         match word {
@@ -85,8 +99,8 @@ pub(crate) enum Word {
     Buffer,
 }
 
-impl Word {
-    const ALL: [Word; 13] = [
+impl Worded for Word {
+    const ALL: &'static [Word] = &[
         Word::Dev,
         Word::Ingress,
         Word::Egress,
@@ -119,7 +133,9 @@ impl Word {
             Word::Buffer => "buffer",
         }
     }
+}
 
+impl Word {
     // What the word tells.
     fn subject(self) -> &'static str {
         match self {
@@ -161,6 +177,14 @@ impl Word {
     }
 }
 
+impl Worded for XdpMode {
+    const ALL: &'static [XdpMode] = &XdpMode::ALL;
+
+    fn text(self) -> &'static str {
+        XdpMode::text(self)
+    }
+}
+
 // Why a line is not understood.
 #[derive(Clone, Copy)]
 pub(crate) enum Misread<'a> {
@@ -189,26 +213,7 @@ impl From<AllocError> for Misread<'_> {
     }
 }
 
-impl<'a> TryFrom<&'a str> for Verb {
-    type Error = Misread<'a>;
-
-    fn try_from(token: &'a str) -> Result<Verb, Misread<'a>> {
-        let mut all = Verb::ALL.into_iter();
-        all.find(|verb| verb.text() == token)
-            .ok_or(Misread::UnknownVerb(token))
-    }
-}
-
-impl<'a> TryFrom<&'a str> for Word {
-    type Error = Misread<'a>;
-
-    fn try_from(token: &'a str) -> Result<Word, Misread<'a>> {
-        let mut all = Word::ALL.into_iter();
-        all.find(|word| word.text() == token)
-            .ok_or(Misread::UnknownWord(token))
-    }
-}
-
+// One for each: Rust allows no `impl` of a foreign trait for every `T: Worded`.
 impl fmt::Display for Verb {
     fn fmt<W: fmt::Write>(&self, f: &mut fmt::Formatter<W>) -> fmt::Result {
         f.write_str(self.text())
@@ -308,17 +313,6 @@ fn room_of(text: &str) -> Option<usize>
     (room <= MOST_ROOM).then_some(room)
 }
 
-// No search by the modes' own names: a mode prints itself, and its name is a text to compare only on the heap.
-fn mode_of(text: &str) -> Option<XdpMode> {
-    match text {
-        "default" => Some(XdpMode::Default),
-        "skb" => Some(XdpMode::Skb),
-        "driver" => Some(XdpMode::Driver),
-        "hardware" => Some(XdpMode::Hardware),
-        _ => None,
-    }
-}
-
 // The program of an `fd`: one that is open, or none, which takes the program off.
 fn descriptor_of(text: &str) -> Option<Option<u32>> {
     if text == "none" {
@@ -401,7 +395,7 @@ impl<'a> Told<'a> {
             Word::Name => fill(&mut self.name, word, token, Some(Name::Text(token))),
             Word::NameHex => fill(&mut self.name, word, token, Some(Name::Hex(token))),
             Word::Class => fill(&mut self.class, word, token, handle_of(token)),
-            Word::Mode => fill(&mut self.mode, word, token, mode_of(token)),
+            Word::Mode => fill(&mut self.mode, word, token, named(token)),
             Word::Expect => fill(&mut self.expected, word, token, number(token)),
             Word::Buffer => fill(&mut self.room, word, token, room_of(token)),
         }
@@ -418,11 +412,12 @@ pub(crate) struct Command<'a> {
 impl<'a> Command<'a> {
     pub(crate) fn parse(line: &'a str) -> Result<Command<'a>, Misread<'a>> {
         let mut tokens = line.split_whitespace();
-        let verb = Verb::try_from(tokens.next().unwrap_or(""))?;
+        let first = tokens.next().unwrap_or("");
+        let verb: Verb = named(first).ok_or(Misread::UnknownVerb(first))?;
         let mut told = Told::default();
         // no `for`: a word takes its value from the same tokens
         while let Some(token) = tokens.next() {
-            let word = Word::try_from(token)?;
+            let word: Word = named(token).ok_or(Misread::UnknownWord(token))?;
             if !verb.takes(word) {
                 return Err(Misread::Foreign(verb, word));
             }

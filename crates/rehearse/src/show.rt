@@ -340,6 +340,7 @@ fn write_program<W: fmt::Write>(f: &mut fmt::Formatter<W>, program: &Program<'_>
     write_option(f, " class ", program.class)
 }
 
+// Key and program are two, as the requests have them: a removal has the key alone.
 fn write_filter<W: fmt::Write>(
     f: &mut fmt::Formatter<W>,
     verb: &str,

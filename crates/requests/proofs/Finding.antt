@@ -1,21 +1,24 @@
 -- Which request bytes can be. Assumes nothing.
-use Rattle.std.proofs.Common.{◌≡◌, ℕ, ◌*◌, ◌/◌, ◌%◌, bit_and, ◌<◌, ◌≤◌, Bool, true, false, Decides, List, length, take, drop, Some, None, Ok, Err, Option, Result, sym, refl, ap, ◌∙◌, subst, arith, MatchOption, IfSome}
+use Rattle.std.proofs.Common.{◌≡◌, ℕ, ◌*◌, ◌/◌, ◌%◌, bit_and, ◌<◌, ◌≤◌, Bool, true, false, Decides, List, [], ◌∷◌, length, take, drop, ◌==◌, Some, None, Ok, Err, Option, Result, sym, refl, ap, ◌∙◌, subst, arith, MatchOption, IfSome}
 use Rattle.std.proofs.lemmas.List.{take_at}
 use Rattle.std.proofs.lemmas.Nat.Bits.{and_high}
 use Rattle.std.specs.Bool.{then_some}
-use Rattle.std.specs.Option.{option_map}
+use Rattle.std.specs.List.{find}
+use Rattle.std.specs.Option.{option_map, unwrap_or}
 use Rattle.std.specs.Result.{result_ok}
 use Rattle.std.proofs.lemmas.Bool.Decides.{nat_tests}
 use Rattle.requests.specs.declared.fault.ArgumentFault.{ArgumentFault}
 use Rattle.records.specs.Words.{le2}
 use Rattle.requests.specs.declared.request.Request.{Request}
+use Rattle.requests.specs.declared.mode.XdpMode.TheVariants.{Default, Skb, Driver, Hardware}
+use Rattle.requests.specs.Modes.{mode_flags}
 use Rattle.requests.specs.Asks.{Ask, asks, set_xdp, add_clsact, attach, replace, remove, list}
 use Rattle.requests.specs.Table.{type_of, flags_of, filter_header}
 use Rattle.requests.specs.Bytes.{request_bytes}
 use Rattle.requests.specs.Builders.{tc_bytes}
 use Rattle.requests.specs.Refusals.{argument_fault, room_fault, unless, written, buffer}
-use Rattle.requests.specs.Back.{Fits, Writes}
-use Rattle.requests.specs.Places.{Short, placed_xdp, placed}
+use Rattle.requests.specs.Back.{Fits, PickedOut, Writes}
+use Rattle.requests.specs.Places.{Short, placed_xdp, placed, mode_of}
 use Rattle.requests.proofs.Standing.{name_short, program_name, class_short, request_length_lem, answered}
 use Rattle.requests.proofs.Placing.{type_is, flags_is, program_descriptor, not_short, xdp_back, placed_back}
 
@@ -54,9 +57,9 @@ no_program b s (list i p) w q = omega (arith, type_of_lem (list i p) b w)
 
 -- what is picked out is the only request that it can be
 abbrev pub Picked : List ℕ → Option Request → Type 0
-Picked b r = MatchOption r ((x : Ask) → Writes x b → ⊥) (λ q. ((x : Ask) → Writes x b → asks q ≡ x) × Fits (asks q))
+Picked b r = MatchOption r ((x : Ask) → Writes x b → ⊥) (PickedOut (λ y. (x : Ask) → Writes x b → y ≡ x))
 
-pub picked_xdp : (b : List ℕ) (r : Option Request) → le2 b 4 ≡ 19 → MatchOption r (length b < 52) (λ q. (asks q ≡ placed_xdp b) × Fits (asks q)) → Picked b r
+pub picked_xdp : (b : List ℕ) (r : Option Request) → le2 b 4 ≡ 19 → MatchOption r (length b < 52) (PickedOut (λ x. x ≡ placed_xdp b)) → Picked b r
 picked_xdp b None k c = λ x w. at x w
   where
     at : (x : Ask) → Writes x b → ⊥
@@ -77,7 +80,7 @@ picked_xdp b (Some q) k c = (at, c.1)
     at (list i p) w = absurd (omega (arith, type_of_lem (list i p) b w))
 
 pub picked_traffic : (b : List ℕ) (r : Option Request) (kind flags : ℕ) → kind ≡ le2 b 4 → flags ≡ le2 b 6 →
-    MatchOption r ((x : Ask) → Writes x b → kind ≡ le2 b 4 → ⊥) (λ q. (asks q ≡ placed kind flags b) × Fits (asks q)) → Picked b r
+    MatchOption r ((x : Ask) → Writes x b → kind ≡ le2 b 4 → ⊥) (PickedOut (λ x. x ≡ placed kind flags b)) → Picked b r
 picked_traffic b None kind flags k f c = λ x w. c x w k
 picked_traffic b (Some q) kind flags k f c = (
   (λ x w.
@@ -143,5 +146,9 @@ module _ (b : List ℕ) (y : Ask) (only : (x : Ask) → Writes x b → y ≡ x) 
     kept q a f false d = (tt, λ x w. absurd (not_other (λ p. let z : false ≡ true = d.1 p in absurd (let t : ◌≡◌ {A = ℕ} 0 1 = cc in omega arith)) x w))
 
 -- the three flags of a mode are bits 1 to 3
-pub mode_bits : (n : ℕ) → bit_and n 14 ≡ n / 2 % 8 * 2
+mode_bits : (n : ℕ) → bit_and n 14 ≡ n / 2 % 8 * 2
 mode_bits n = and_high n 3 1
+
+-- the first mode whose flag these are, or the default
+pub mode_found : (n : ℕ) → unwrap_or (find (λ m. mode_flags m == bit_and n 14) (Default ∷ Skb ∷ Driver ∷ Hardware ∷ [])) Default ≡ mode_of n
+mode_found n = rw (mode_bits n) (grind (arith, nat_tests))

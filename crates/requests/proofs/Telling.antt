@@ -8,7 +8,7 @@ use Rattle.records.specs.declared.tcmsg.Tcmsg.{Tcmsg}
 use Rattle.requests.specs.Asks.{Key}
 use Rattle.requests.specs.Table.{filter_header}
 use Rattle.requests.specs.Bytes.{attribute_bytes, row_bytes}
-use Rattle.requests.specs.FilterMessages.{closed, name_row, name_options, filter_row, filter_message, filter_bytes, optional_name_fault, filter_fault}
+use Rattle.requests.specs.FilterMessages.{closed, name_row, name_options, filter_row, filter_message, options_length, filter_length, filter_bytes, optional_name_fault, filter_fault}
 use Rattle.requests.specs.Refusals.{name_fault, interface_fault}
 use Rattle.requests.specs.Writing.{Puts}
 use Rattle.requests.proofs.Rows.{attribute_length, row_fours}
@@ -36,13 +36,13 @@ options_bytes name len e =
     ∙ ap (λ (n : ℕ). (bytes2 (4 + length row) ++ bytes2 2) ++ (row ++ replicate n 0)) (sym z)
     ∙ sym (append-nil (attribute_bytes (record { kind = 2; payload = row })))
 
-pub options_size : (name : List ℕ) → length (row_bytes (name_options (Some name))) ≡ 4 + padded (length name + 5)
+pub options_size : (name : List ℕ) → options_length (Some name) ≡ 4 + padded (length name + 5)
 options_size name =
     let e = ap length (options_bytes name (4 + padded (length name + 5)) refl) in
     omega (arith, e, text_length 7 name)
 
 pub told_length : (flags : ℕ) (key : Key) (kind : List ℕ) (name : Option (List ℕ)) →
-    length (filter_bytes flags key kind name) ≡ 36 + padded (length kind + 5) + length (row_bytes (name_options name))
+    length (filter_bytes flags key kind name) ≡ filter_length kind name
 unfolding filter_bytes
 told_length flags key kind name =
     let a = attribute_bytes (record { kind = 1; payload = closed kind }) in
@@ -55,7 +55,7 @@ told_length flags key kind name =
     )
 
 pub told_puts : (o0 o1 o2 o3 : List ℕ) (i1 i2 i3 : ℕ) (flags len : ℕ) (key : Key) (header : Tcmsg) (kind : List ℕ) (name : Option (List ℕ)) → filter_header key ≡ header →
-    len ≡ 36 + padded (length kind + 5) + length (row_bytes (name_options name)) →
+    len ≡ filter_length kind name →
     Puts o0 o1 0 i1 (header_bytes len 44 flags ++ tcmsg_bytes header) → Puts o1 o2 i1 i2 (attribute_bytes (record { kind = 1; payload = closed kind })) →
     Puts o2 o3 i2 i3 (row_bytes (name_options name)) → Puts o0 o3 0 i3 (filter_bytes flags key kind name)
 unfolding filter_bytes
@@ -75,6 +75,6 @@ told_texts key kind name e =
     let p = first_none (name_fault kind) (optional_name_fault name) (first_none (interface_fault key.interface) _ e).1 in
     (name_short kind p.0, p.1)
 
-pub options_short : (name : Option (List ℕ)) → optional_name_fault name ≡ None → length (row_bytes (name_options name)) ≤ 268
+pub options_short : (name : Option (List ℕ)) → optional_name_fault name ≡ None → options_length name ≤ 268
 options_short None e = omega arith
 options_short (Some name) e = omega (arith, options_size name, name_short name e)

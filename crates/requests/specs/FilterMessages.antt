@@ -1,6 +1,7 @@
 -- The message that tells of a filter, as a kernel sends it: in a listing, or as the echo of a request.
-use Rattle.std.specs.Prelude.{ℕ, List, [], ◌∷◌, ◌++◌, Some, None, Option}
+use Rattle.std.specs.Prelude.{ℕ, ◌+◌, List, [], ◌∷◌, ◌++◌, length, Some, None, Option}
 use Rattle.std.specs.Option.{option_map, option_copied}
+use Rattle.records.specs.Align.{padded}
 use Rattle.records.specs.Fields.{tcmsg_bytes}
 use Rattle.records.specs.Layouts.{Attribute, Message}
 use Rattle.requests.specs.declared.fault.ArgumentFault.{ArgumentFault}
@@ -49,6 +50,13 @@ filter_message flags key kind name =
 
 unfoldable pub filter_bytes : ℕ → Key → List ℕ → Option (List ℕ) → List ℕ
 filter_bytes flags key kind name = message_bytes (filter_message flags key kind name)
+
+-- how many bytes the options take, and how many the whole message
+abbrev pub options_length : Option (List ℕ) → ℕ
+options_length name = length (row_bytes (name_options name))
+
+abbrev pub filter_length : List ℕ → Option (List ℕ) → ℕ
+filter_length kind name = 36 + padded (length kind + 5) + options_length name
 
 -- kind and name are texts of at most 256 bytes without a zero
 abbrev pub optional_name_fault : Option (List ℕ) → Option ArgumentFault

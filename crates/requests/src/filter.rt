@@ -1,9 +1,8 @@
-ghost use Rattle.std.specs.Prelude.{◌≡◌, ◌+◌, ◌≤◌, length, Some, None, MatchResult};
-ghost use Rattle.records.specs.Align.{padded};
+ghost use Rattle.std.specs.Prelude.{◌≡◌, ◌≤◌, length, Some, None, MatchResult};
 ghost use Rattle.requests.specs.Asks.{Key as AskKey};
 ghost use Rattle.requests.specs.Table.{filter_header};
 ghost use Rattle.requests.specs.Bytes.{row_bytes};
-ghost use Rattle.requests.specs.FilterMessages.{filter_of, texts_of, name_options, filter_bytes, filter_fault};
+ghost use Rattle.requests.specs.FilterMessages.{filter_of, texts_of, name_options, options_length, filter_length, filter_bytes, filter_fault};
 ghost use Rattle.requests.specs.Refusals.{unless, Written};
 ghost use Rattle.requests.specs.Writing.{Puts, Room, Wrote};
 
@@ -17,6 +16,7 @@ use records::numbers::{RTM_NEWTFILTER, TCA_BPF_NAME, TCA_KIND, TCA_OPTIONS};
 use records::tcmsg::Tcmsg;
 
 // A filter that is told of: its key, its kind, and its name where it has one.
+// No `impl Model`: a Copy type with a lifetime has none.
 #[derive(Clone, Copy, PartialEq, Eq, Hash, Debug)]
 pub struct Filter<'a> {
     pub key: Key,
@@ -64,7 +64,7 @@ impl<'a> Filter<'a> {
 impl Told<'_> {
     // How many bytes the options take: none without a name.
     fn options_len(&self) -> u16
-        ensures value { result ≡ length (row_bytes (name_options (texts_of self.now.name))) }
+        ensures value { result ≡ options_length (texts_of self.now.name) }
         ensures bound { result ≤ 268 }
     {
         // no `map_or`: the two lengths side by side are plainer
@@ -76,7 +76,7 @@ impl Told<'_> {
 
     // How many bytes the message takes.
     fn size(&self) -> usize
-        ensures value { result ≡ 36 + padded (length self.now.kind.bytes.now + 5) + length (row_bytes (name_options (texts_of self.now.name))) }
+        ensures value { result ≡ filter_length self.now.kind.bytes.now (texts_of self.now.name) }
         ensures bound { result ≤ 1000 }
     {
         36 + align(self.kind.bytes().len() as u32 + 5) + usize::from(self.options_len())
@@ -84,8 +84,8 @@ impl Told<'_> {
 
     // Writes the options, or nothing without a name.
     fn put_options(&self, writer: &mut Writer<'_>)
-        requires { Room writer.old (length (row_bytes (name_options (texts_of self.now.name)))) }
-        ensures { Wrote writer.old writer.new (length (row_bytes (name_options (texts_of self.now.name)))) (row_bytes (name_options (texts_of self.now.name))) }
+        requires { Room writer.old (options_length (texts_of self.now.name)) }
+        ensures { Wrote writer.old writer.new (options_length (texts_of self.now.name)) (row_bytes (name_options (texts_of self.now.name))) }
     {
         if let Some(name) = self.name {
             writer.open_attribute(TCA_OPTIONS, self.options_len());
@@ -95,7 +95,7 @@ impl Told<'_> {
 
     // Writes the message, which takes `size` bytes.
     fn put(&self, flags: u16, size: usize, out: &mut [u8]) -> usize
-        requires { (size ≡ 36 + padded (length self.now.kind.bytes.now + 5) + length (row_bytes (name_options (texts_of self.now.name)))) × (size ≤ length out.old) × (size ≤ 1000) }
+        requires { (size ≡ filter_length self.now.kind.bytes.now (texts_of self.now.name)) × (size ≤ length out.old) × (size ≤ 1000) }
         ensures end { result ≡ size }
         ensures puts { (k : AskKey) → filter_header k ≡ self.now.header → Puts out.old out.new 0 result (filter_bytes flags k self.now.kind.bytes.now (texts_of self.now.name)) }
     {

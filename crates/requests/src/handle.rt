@@ -12,6 +12,7 @@ pub fn tc_handler_make(major: u32, minor: u32) -> u32
 }
 
 // A handle of traffic control, written `major:minor`: of a filter, a class or a queueing discipline.
+// No `impl Model`: tried; the borrow checker has no rule for a `Request` whose handles have one, so what reads or writes it has no proof.
 #[derive(Clone, Copy, PartialEq, Eq, Hash, Default, Debug)]
 pub struct TcHandle {
     major: u16,

@@ -14,6 +14,25 @@ pub enum XdpMode {
 }
 
 impl XdpMode {
+    pub const ALL: [XdpMode; 4] = [
+        XdpMode::Default,
+        XdpMode::Skb,
+        XdpMode::Driver,
+        XdpMode::Hardware,
+    ];
+
+    // The mode's name.
+    pub fn text(self) -> &'static str
+        ensures { result.now ≡ mode_text self }
+    {
+        match self {
+            XdpMode::Default => "default",
+            XdpMode::Skb => "skb",
+            XdpMode::Driver => "driver",
+            XdpMode::Hardware => "hardware",
+        }
+    }
+
     // The mode's flag in a request.
     pub fn flags(self) -> u32
         ensures { result ≡ mode_flags self }
@@ -31,11 +50,6 @@ impl fmt::Display for XdpMode {
     ghost output = { λ m. Some (mode_text m) };
 
     fn fmt<W: fmt::Write>(&self, f: &mut fmt::Formatter<W>) -> fmt::Result {
-        f.write_str(match self {
-            XdpMode::Default => "default",
-            XdpMode::Skb => "skb",
-            XdpMode::Driver => "driver",
-            XdpMode::Hardware => "hardware",
-        })
+        f.write_str(self.text())
     }
 }

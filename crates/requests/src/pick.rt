@@ -1,9 +1,9 @@
 ghost use Rattle.std.specs.Prelude.{◌≡◌, ◌+◌, ◌<◌, ◌≤◌, length, MatchOption};
 ghost use Rattle.std.specs.Option.{option_map};
 ghost use Rattle.records.specs.Words.{le2, le4};
-ghost use Rattle.requests.specs.Asks.{asks, key_of, program_of};
+ghost use Rattle.requests.specs.Asks.{key_of, program_of};
 ghost use Rattle.requests.specs.Handles.{bits_of};
-ghost use Rattle.requests.specs.Back.{Fits, KeyFits, ClassFits};
+ghost use Rattle.requests.specs.Back.{KeyFits, ClassFits, PickedOut};
 ghost use Rattle.requests.specs.Places.{header_key, base_of, class_of, placed_program, Short, mode_of, descriptor_of, expected_of, placed_xdp};
 
 use crate::handle::TcHandle;
@@ -73,16 +73,15 @@ pub(crate) fn pick_program(bytes: &[u8]) -> Option<Program<'_>>
 }
 
 // Three of the flags hold the mode.
-#[tactic(auto, using(crate::proofs::Finding::mode_bits))]
 fn mode_of(flags: u32) -> XdpMode
     ensures { result ≡ mode_of flags }
 {
-    match flags & (XDP_FLAGS_SKB_MODE | XDP_FLAGS_DRV_MODE | XDP_FLAGS_HW_MODE) {
-        XDP_FLAGS_SKB_MODE => XdpMode::Skb,
-        XDP_FLAGS_DRV_MODE => XdpMode::Driver,
-        XDP_FLAGS_HW_MODE => XdpMode::Hardware,
-        _ => XdpMode::Default,
-    }
+    let flags = flags & (XDP_FLAGS_SKB_MODE | XDP_FLAGS_DRV_MODE | XDP_FLAGS_HW_MODE);
+    XdpMode::ALL
+        .iter()
+        .find(|mode| mode.flags() == flags)
+        .copied()
+        .unwrap_or(XdpMode::Default)
 }
 
 // All bits set stand for no descriptor.
@@ -101,7 +100,7 @@ fn expected_of(bytes: &[u8]) -> Option<u32>
 
 // The request to set an interface's XDP program.
 pub(crate) fn pick_set_xdp(bytes: &[u8]) -> Option<Request<'_>>
-    ensures { MatchOption result (length «bytes».now < 52) (λ q. (asks q ≡ placed_xdp «bytes».now) × Fits (asks q)) }
+    ensures { MatchOption result (length «bytes».now < 52) (PickedOut (λ x. x ≡ placed_xdp «bytes».now)) }
 {
     let (header, _) = read::<Ifinfomsg>(bytes, 16)?;
     let descriptor = descriptor_of(word(bytes, 40)?);

@@ -2,7 +2,7 @@ ghost use Rattle.std.specs.Prelude.{◌≡◌, IfSome, Some, MatchOption, ◌≢
 ghost use Rattle.std.specs.Option.{option_map};
 ghost use Rattle.records.specs.Words.{le2};
 ghost use Rattle.requests.specs.Asks.{Ask, asks};
-ghost use Rattle.requests.specs.Back.{Fits, Writes};
+ghost use Rattle.requests.specs.Back.{PickedOut, Writes};
 ghost use Rattle.requests.specs.Places.{placed};
 
 use crate::pick::{key_of, pick_program, pick_set_xdp};
@@ -18,7 +18,7 @@ use records::tcmsg::Tcmsg;
 // A request about filters, by its type, its flags and its family header.
 fn pick_traffic(kind: u16, flags: u16, bytes: &[u8]) -> Option<Request<'_>>
     requires { kind ≢ 19 }
-    ensures { MatchOption result ((x : Ask) → Writes x «bytes».now → kind ≢ le2 «bytes».now 4) (λ q. (asks q ≡ placed kind flags «bytes».now) × Fits (asks q)) }
+    ensures { MatchOption result ((x : Ask) → Writes x «bytes».now → kind ≢ le2 «bytes».now 4) (PickedOut (λ x. x ≡ placed kind flags «bytes».now)) }
 {
     let (header, _) = read::<Tcmsg>(bytes, 16)?;
     let key = key_of(&header);
@@ -42,7 +42,7 @@ fn pick_traffic(kind: u16, flags: u16, bytes: &[u8]) -> Option<Request<'_>>
 
 // The one request that these bytes could be, from where its arguments would stand in them.
 fn pick(bytes: &[u8]) -> Option<Request<'_>>
-    ensures { MatchOption result ((x : Ask) → Writes x «bytes».now → ⊥) (λ q. ((x : Ask) → Writes x «bytes».now → asks q ≡ x) × Fits (asks q)) }
+    ensures { MatchOption result ((x : Ask) → Writes x «bytes».now → ⊥) (PickedOut (λ y. (x : Ask) → Writes x «bytes».now → y ≡ x)) }
 {
     let (header, _) = read::<Nlmsghdr>(bytes, 0)?;
     if header.kind == RTM_SETLINK {

@@ -12,6 +12,7 @@ pub struct Hook {
 }
 
 // Which filter: on which interface, under which parent, at which priority, and its handle there.
+// No `impl Model`: callers name its fields, and to be Copy it would have to make the two handles again from their bits.
 #[derive(Clone, Copy, PartialEq, Eq, Hash, Debug)]
 pub struct Key {
     pub interface: u32,
@@ -35,11 +36,12 @@ impl Key {
     pub fn is_numbered(self) -> bool
         ensures { let k = key_of self in result ≡ (nat_le 1 k.priority && nat_le 1 k.handle) }
     {
-        self.priority != 0 && self.handle.bits() != 0
+        self.priority != 0 && self.handle != TcHandle::AUTO_ASSIGN
     }
 }
 
 // The program that a filter runs: its descriptor, its name without a final zero, and the class it binds packets to.
+// No `impl Model`: a Copy type with a lifetime has none.
 #[derive(Clone, Copy, PartialEq, Eq, Hash, Debug)]
 pub struct Program<'a> {
     pub descriptor: u32,
@@ -57,6 +59,7 @@ pub struct SetXdp {
 }
 
 // The six requests.
+// No `impl Model`: an enum has none.
 #[derive(Clone, Copy, PartialEq, Eq, Hash, Debug)]
 pub enum Request<'a> {
     // Sets the XDP program of an interface.
@@ -64,6 +67,7 @@ pub enum Request<'a> {
     // Adds the queueing discipline that takes filters on both ways.
     AddClsact { interface: u32 },
     // Adds a filter. A priority or handle of 0 leaves that choice to the other end.
+    // Key and program are two values wherever they go together: who removes a filter has its key alone.
     Attach(Key, Program<'a>),
     // Gives the filter of that key another program.
     Replace(Key, Program<'a>),

@@ -65,7 +65,7 @@ impl Tc<()> {
     }
 }
 
-// Flags, header and buffer stay apart in every writer: a struct of them would be made at each call and taken apart at the next.
+// Flags, header and buffer stay apart: each public `write`, which takes them singly, would make a struct for `Writer::begin` to take apart.
 
 // Writes a request that has a family header and no attributes.
 fn write_bare(

@@ -15,6 +15,7 @@ use filters::store::Filters;
 use queue::queue::Queue;
 use records::numbers::ENOBUFS;
 use requests::filter::Filter;
+use requests::handle::TcHandle;
 use requests::request::Key;
 
 // The priority that is given where none is asked for.
@@ -62,7 +63,7 @@ impl Bench {
         ensures { key_of result ≡ granted (key_of wanted) (held self.now.filters) }
     {
         let key = prioritize(wanted);
-        if key.handle.bits() == 0 {
+        if key.handle == TcHandle::AUTO_ASSIGN {
             let handle = self.filters.lowest_free_handle(key);
             Key { handle, ..key }
         } else {

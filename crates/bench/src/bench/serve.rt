@@ -1,5 +1,4 @@
-ghost use Rattle.std.specs.Prelude.{◌≡◌, ◌≤◌, ◌∷◌, length, if◌then◌else◌, Some, None};
-ghost use Rattle.std.specs.Option.{option_map};
+ghost use Rattle.std.specs.Prelude.{◌≡◌, ◌≤◌, ◌∷◌, length, Some, None};
 ghost use Rattle.requests.specs.Asks.{key_of, asks};
 ghost use Rattle.requests.specs.Back.{Writes};
 ghost use Rattle.requests.specs.Handles.{bits_of};
@@ -7,7 +6,6 @@ ghost use Rattle.requests.specs.FilterMessages.{filter_fault};
 ghost use Rattle.requests.specs.Refusals.{name_fault};
 ghost use Rattle.hosts.specs.Meaning.{bpf};
 ghost use Rattle.hosts.specs.Rules.{without};
-ghost use Rattle.filters.specs.Fitting.{is_filter};
 ghost use Rattle.filters.specs.Rows.{meaning};
 ghost use Rattle.filters.specs.Keys.{admitted, renaming, removing};
 ghost use Rattle.bench.specs.Serving.{answered, echoed, granted, named, attaching, replacing, status_of, listing, served};
@@ -21,7 +19,6 @@ use filters::refusal::Refusal;
 use filters::row::Row;
 use queue::queue::Queue;
 use records::numbers::{REQUEST_ACK_ECHO, REQUEST_ACK_ECHO_EXCL_CREATE};
-use requests::filter::Filter;
 use requests::request::{Hook, Key, Request};
 
 // The status of an outcome: 0 acknowledges. No `map_or`: one match says both.
@@ -32,17 +29,6 @@ fn status_of(outcome: Result<(), Refusal>) -> i32
         Ok(()) => 0,
         Err(refusal) => refusal.status(),
     }
-}
-
-// A row for a bpf filter of this name.
-fn bpf_row(key: Key, name: &[u8]) -> Option<Row>
-    ensures { let f = named (key_of key) name.now in option_map meaning result ≡ (if is_filter f then Some f else None) }
-{
-    Row::new(Filter {
-        key,
-        kind: b"bpf",
-        name: Some(name),
-    })
 }
 
 impl Bench {
@@ -81,6 +67,7 @@ impl Bench {
     pub(crate) fn remove(&mut self, request: Sent<'_>, key: Key) -> Result<(), i32>
         ensures { Replied (answered request.entry.bytes.now (status_of (removing (key_of key) (state_of self.old).filters)) (without (key_of key) (state_of self.old).filters)) (state_of self.old) result (state_of self.new) }
     {
+        // Asked first: the filter goes only behind an answer that was given.
         let outcome = if self.filters.has(key) {
             Ok(())
         } else {
@@ -99,7 +86,7 @@ impl Bench {
         ensures { Replied (attaching (admitted (granted (key_of wanted) (state_of self.old).filters) (state_of self.old).filters) (named (granted (key_of wanted) (state_of self.old).filters) name.now) request.entry.bytes.now (state_of self.old).filters) (state_of self.old) result (state_of self.new) }
     {
         let key = self.grant(wanted);
-        let row = bpf_row(key, name).unwrap();
+        let row = Row::bpf(key, name).unwrap();
         if let Err(refusal) = self.filters.admits(key) {
             return self.answer(request, Err(refusal));
         }
@@ -116,7 +103,7 @@ impl Bench {
         if !self.filters.has_bpf(key) {
             return self.answer(request, Err(Refusal::NoEntry));
         }
-        let row = bpf_row(key, name).unwrap();
+        let row = Row::bpf(key, name).unwrap();
         self.echo(request, &row, REQUEST_ACK_ECHO)?;
         let _ = self.filters.rename(key, name);
         Ok(())

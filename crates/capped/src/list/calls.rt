@@ -73,10 +73,7 @@ impl<T: Copy, const N: usize> Capped<T, N> {
         ensures answer { result ≡ slice_get (values self.old) place }
         ensures after { values self.new ≡ slice_set (values self.old) place value }
     {
-        if self.len <= place {
-            return None;
-        }
-        let old = self.cells[place];
+        let old = self.get(place)?;
         self.cells[place] = value;
         Some(old)
     }
@@ -86,10 +83,7 @@ impl<T: Copy, const N: usize> Capped<T, N> {
         ensures answer { result ≡ slice_get (values self.old) place }
         ensures after { values self.new ≡ remove (values self.old) place }
     {
-        if self.len <= place {
-            return None;
-        }
-        let old = self.cells[place];
+        let old = self.get(place)?;
         let cells = &mut self.cells[..];
         cells[place..self.len].rotate_left(1);
         self.len -= 1;

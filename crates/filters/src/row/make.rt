@@ -1,10 +1,10 @@
-ghost use Rattle.std.specs.Prelude.{◌≡◌, true, ◌&&◌, length, if◌then◌else◌, Some, None, nat_le};
+ghost use Rattle.std.specs.Prelude.{◌≡◌, true, ◌&&◌, length, Some, nat_le};
 ghost use Rattle.std.specs.Option.{option_map, option_copied};
 ghost use Rattle.std.specs.Str.{bytes_eq};
 ghost use Rattle.requests.specs.Asks.{key_of};
 ghost use Rattle.requests.specs.FilterMessages.{Filter as Told, filter_of, filter_fault};
 ghost use Rattle.hosts.specs.Meaning.{bpf};
-ghost use Rattle.filters.specs.Fitting.{is_filter, may_be_named, passes};
+ghost use Rattle.filters.specs.Fitting.{is_filter, standing, filter_with, may_be_named, passes};
 ghost use Rattle.filters.specs.Keys.{named};
 ghost use Rattle.filters.specs.Rows.{meaning};
 
@@ -62,7 +62,7 @@ impl Keyed for Row {
 impl Row {
     // A row for a filter, or none where it cannot stand here.
     pub fn new(filter: Filter<'_>) -> Option<Row>
-        ensures { option_map meaning result ≡ (if is_filter (filter_of filter.entry) then Some (filter_of filter.entry) else None) }
+        ensures { option_map meaning result ≡ standing (filter_of filter.entry) }
     {
         if !is_filter(&filter) {
             return None;
@@ -71,6 +71,17 @@ impl Row {
             key: filter.key,
             kind: Text::of(filter.kind),
             name: Text::perhaps(filter.name),
+        })
+    }
+
+    // A row for a bpf filter of this name, or none where it cannot stand here.
+    pub fn bpf(key: Key, name: &[u8]) -> Option<Row>
+        ensures { option_map meaning result ≡ standing (filter_with (key_of key) bpf (Some name.now)) }
+    {
+        Row::new(Filter {
+            key,
+            kind: BPF,
+            name: Some(name),
         })
     }
 
@@ -108,7 +119,7 @@ impl Row {
 
     // The same filter under another name, or none where that cannot be.
     pub(crate) fn renamed(&self, name: &[u8]) -> Option<Row>
-        ensures { let f = named (meaning self.now) name.now in option_map meaning result ≡ (if is_filter f then Some f else None) }
+        ensures { option_map meaning result ≡ standing (named (meaning self.now) name.now) }
     {
         Row::new(Filter {
             name: Some(name),

@@ -114,6 +114,7 @@ impl Filters {
     }
 
     // Gives the bpf filter of this key another name.
+    // Key and name apart: the key says which filter, the name is what it gets. A `Row` is what both make.
     pub fn rename(&mut self, key: Key, name: &[u8]) -> Result<(), Refusal>
         ensures answer { result ≡ renaming (key_of key) name.now (held self.old) }
         ensures after { held self.new ≡ after_renaming result (key_of key) name.now (held self.old) }

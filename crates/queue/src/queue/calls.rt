@@ -1,6 +1,6 @@
-ghost use Rattle.std.specs.Prelude.{◌≡◌, ◌+◌, ◌-◌, ◌<◌, ◌≤◌, ◌&&◌, [], ◌∷◌, ◌++◌, drop, length, if◌then◌else◌, get_or, set, nat_le, nat_lt};
+ghost use Rattle.std.specs.Prelude.{◌≡◌, ◌+◌, ◌-◌, ◌<◌, ◌≤◌, ◌&&◌, [], ◌∷◌, ◌++◌, drop, length, if◌then◌else◌, set, nat_le, nat_lt};
 ghost use Rattle.capped.specs.Values.{values, room};
-ghost use Rattle.queue.specs.Cuts.{bulk, takes, joined, fitting, behind, fronted};
+ghost use Rattle.queue.specs.Cuts.{last_length, bulk, takes, joined, fitting, behind, fronted};
 ghost use Rattle.queue.specs.Waiting.{waiting};
 
 use super::Queue;
@@ -20,8 +20,8 @@ fn is_sized(len: usize) -> bool
 
 // Adds to the last length, by its place: a capped list lends no value of its own to be written.
 fn lengthen(lens: &mut Capped<u16, 1024>, more: u16)
-    requires { let ns = values lens.old in (0 < length ns) × (get_or ns (length ns - 1) 0 + more ≤ 4096) }
-    ensures { let ns = values lens.old in values lens.new ≡ set ns (length ns - 1) (get_or ns (length ns - 1) 0 + more) }
+    requires { let ns = values lens.old in (0 < length ns) × (last_length ns + more ≤ 4096) }
+    ensures { let ns = values lens.old in values lens.new ≡ set ns (length ns - 1) (last_length ns + more) }
 {
     let place = lens.len() - 1;
     let last = lens.as_slice()[place];
@@ -99,7 +99,7 @@ impl Queue {
 
     // Whether a message of so many bytes goes behind the last datagram.
     fn may_grow(&self, len: usize) -> bool
-        ensures { let ns = values self.now.lens in result ≡ ((nat_le 16 len && nat_le len 4096) && (nat_lt 0 (length ns) && nat_le (get_or ns (length ns - 1) 0 + len) 4096)) }
+        ensures { let ns = values self.now.lens in result ≡ ((nat_le 16 len && nat_le len 4096) && (nat_lt 0 (length ns) && nat_le (last_length ns + len) 4096)) }
     {
         is_sized(len) && self.last_takes(len)
     }
@@ -107,7 +107,7 @@ impl Queue {
     // Whether the last datagram, if there is one, may have so many bytes more.
     fn last_takes(&self, len: usize) -> bool
         requires { len ≤ 4096 }
-        ensures { let ns = values self.now.lens in result ≡ (nat_lt 0 (length ns) && nat_le (get_or ns (length ns - 1) 0 + len) 4096) }
+        ensures { let ns = values self.now.lens in result ≡ (nat_lt 0 (length ns) && nat_le (last_length ns + len) 4096) }
     {
         self.lens
             .as_slice()

@@ -15,7 +15,7 @@ pub unwrap-row-requires : goal.unwrap-row-requires
 unwrap-row-requires c =
     let t = c.args.self.now.filters in
     let name = c.args.name.now in
-    row_there _ _ _ _ (ap (λ (x : Key). is_filter (named x name)) c.grant-key.ensures ∙ granted_stands (key_of c.args.wanted) (held t) name c.requires) c.bpf_row.ensures
+    row_there _ _ _ _ (ap (λ (x : Key). is_filter (named x name)) c.grant-key.ensures ∙ granted_stands (key_of c.args.wanted) (held t) name c.requires) c.bpf.ensures
 
 pub returns-in_err-echo : goal.returns-in_err-echo
 returns-in_err-echo c =
@@ -25,7 +25,7 @@ returns-in_err-echo c =
     let q = c.args.request.bytes.now in
     let name = c.args.name.now in
     let k = key_of c.args.wanted in
-    let o = comes_to k (key_of c.grant-key.result) name q fs f c.grant-key.ensures (rw c.unwrap-row.ensures at c.bpf_row.ensures) c.in_default.ensures in
+    let o = comes_to k (key_of c.grant-key.result) name q fs f c.grant-key.ensures (rw c.unwrap-row.ensures at c.bpf.ensures) c.in_default.ensures in
     let r = c.from_residual in
     let p = err_from_is_err_and r.result r.ensures.1 in
     let came : r.result ≡ c.echo.result = p.1 ∙ ap Err p.2 ∙ sym c.in_err-echo.was in
@@ -41,10 +41,10 @@ returns c =
     let name = c.args.name.now in
     let k = key_of c.args.wanted in
     let g = key_of c.grant-key.result in
-    let o = comes_to k g name q fs f c.grant-key.ensures (rw c.unwrap-row.ensures at c.bpf_row.ensures) c.in_default.ensures in
+    let o = comes_to k g name q fs f c.grant-key.ensures (rw c.unwrap-row.ensures at c.bpf.ensures) c.in_default.ensures in
     let t = state_of c.echo.new.self in
     let ok : Replied (echoed 0x060D f q fs) (state_of b) (Ok tt) t = (c.in_ok-echo.ensures.0, c.echo.ensures.1) in
     let w = kept (echoed 0x060D f q fs) (echoed 0x060D f q (fs ++ (f ∷ []))) (state_of b) t refl ok in
-    let h = adds k g name q fs f c.grant-key.ensures (rw c.unwrap-row.ensures at c.bpf_row.ensures) c.in_default.ensures _ _ c.add.result w c.add.ensures.answer c.add.ensures.after in
+    let h = adds k g name q fs f c.grant-key.ensures (rw c.unwrap-row.ensures at c.bpf.ensures) c.in_default.ensures _ _ c.add.result w c.add.ensures.answer c.add.ensures.after in
     let a = altered (echoed 0x060D f q fs) (echoed 0x060D f q (fs ++ (f ∷ []))) (state_of b) t refl _ h ok in
     (a.0 ∙ ap (λ (x : Outcome). reply_answer x (state_of b)) (sym o), a.1 ∙ ap (λ (x : Outcome). reply_after x (state_of b)) (sym o))

@@ -8,4 +8,4 @@ use Rattle.bench.proofs.bench.Bench.replace.Goals as goal
 pub unwrap-row-requires : goal.unwrap-row-requires
 unwrap-row-requires c =
     let t = c.args.self.now.filters in
-    row_there _ _ _ _ (held_stands (key_of c.args.key) (held t) c.args.name.now (held_stand t) (sym c.if-not-has_bpf.ensures) c.requires) c.bpf_row.ensures
+    row_there _ _ _ _ (held_stands (key_of c.args.key) (held t) c.args.name.now (held_stand t) (sym c.if-not-has_bpf.ensures) c.requires) c.bpf.ensures

@@ -1,8 +1,6 @@
-use Rattle.std.proofs.Common.{◌≡◌, ℕ, ◌+◌, ◌≤◌, List, length, Option, sym, ap, ◌∙◌, arith}
+use Rattle.std.proofs.Common.{◌≡◌, ℕ, ◌≤◌, List, length, Option, sym, ap, ◌∙◌, arith}
 use Rattle.std.proofs.lemmas.Result.{err_from_is_err_and}
-use Rattle.records.specs.Align.{padded}
-use Rattle.requests.specs.Bytes.{row_bytes}
-use Rattle.requests.specs.FilterMessages.{filter_of, texts_of, name_options, filter_bytes, filter_fault}
+use Rattle.requests.specs.FilterMessages.{filter_of, texts_of, filter_length, filter_bytes, filter_fault}
 use Rattle.requests.proofs.Built.{room_passed, short_exit, done}
 use Rattle.requests.proofs.Putting.{puts_same}
 use Rattle.requests.proofs.Telling.{told_length}
@@ -16,8 +14,8 @@ returns-in_err-check_room c =
     let bs = filter_bytes c.args.flags f.key f.kind f.name in
     let k : length bs ≡ c.size-size.result =
     told_length c.args.flags f.key f.kind f.name
-    ∙ ap (λ (y : Option (List ℕ)). 36 + padded (length f.kind + 5) + length (row_bytes (name_options y))) (sym e.2)
-    ∙ ap (λ (x : List ℕ). 36 + padded (length x + 5) + length (row_bytes (name_options (texts_of t.name)))) (sym e.1)
+    ∙ ap (λ (y : Option (List ℕ)). filter_length f.kind y) (sym e.2)
+    ∙ ap (λ (x : List ℕ). filter_length x (texts_of t.name)) (sym e.1)
     ∙ sym c.size-size.ensures.value in
     let r = c.from_residual-in_err-check_room in
     let p = err_from_is_err_and r.result r.ensures.1 in
