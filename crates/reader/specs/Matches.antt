@@ -1,5 +1,6 @@
 -- The matches of a listing.
-use Rattle.std.specs.Prelude.{ℕ, ◌/◌, Bool, cond, not, ◌&&◌, List, [], ◌∷◌, ◌++◌, length, drop, Some, None, Ok, Err, Option, Result, ◌==◌, nat_lt}
+use Rattle.std.specs.Prelude.{ℕ, ◌/◌, ◌%◌, Bool, false, cond, not, ◌&&◌, List, [], ◌∷◌, ◌++◌, length, drop, Some, None, Ok, Err, Option, Result, ◌==◌, nat_lt, codes}
+use Rattle.std.specs.Fmt.{digits, decimal}
 use Rattle.capped.specs.Values.{values}
 use Rattle.records.specs.Fields.{tcmsg_of}
 use Rattle.records.specs.declared.tcmsg.Tcmsg.{Tcmsg}
@@ -18,6 +19,10 @@ use Rattle.reader.specs.declared.echo.Echo.TheVariants.{Nothing, One, Several}
 -- the matches that a table holds
 abbrev pub matches_of : MatchTable → List Match
 matches_of t = values t.rows
+
+-- a match as text: its priority, and the two halves of its handle as `tc` writes them
+abbrev pub match_text : Match → List ℕ
+match_text m = codes "priority " ++ (decimal m.priority ++ (codes ", handle " ++ (digits 16 false (m.handle / 65536) ++ (codes ":" ++ digits 16 false (m.handle % 65536)))))
 
 -- one more behind the others; a 65th is 27
 abbrev pub pushed : List Match → Match → Result (List Match) TurnFault

@@ -1,3 +1,6 @@
+ghost use Rattle.std.specs.Prelude.{Some};
+ghost use Rattle.reader.specs.Matches.{match_text};
+
 use capped::list::Capped;
 use std::fmt;
 
@@ -12,6 +15,8 @@ pub struct Match {
 
 // The handle in its two halves; the type that prints handles stands in requests, and not below.
 impl fmt::Display for Match {
+    ghost output = { λ m. Some (match_text m) };
+
     fn fmt<W: fmt::Write>(&self, f: &mut fmt::Formatter<W>) -> fmt::Result {
         let Match { priority, handle } = *self;
         let (major, minor) = (handle >> 16, handle & 0xffff);

@@ -46,6 +46,15 @@ impl<'a> Messages<'a> {
         self.rest = behind(all, align(header.len));
         Ok(Some(NetlinkMessage { header, data }))
     }
+
+    // The same, with the answer as an iterator has it. Asked again at a fault, it gives that fault again; a `for`, and whatever else goes
+    // by the Iterator below, ends behind it.
+    pub fn next(&mut self) -> Option<Result<NetlinkMessage<'a>, MessageFault>>
+        ensures step { message_step self.old.rest.now ≡ seen message_of result self.new.rest.now }
+        ensures left { self.new.rest.now ≡ left_by self.old.rest.now (message_step self.old.rest.now) }
+    {
+        self.step().transpose()
+    }
 }
 
 impl<'a> Iterator for Messages<'a> {

@@ -52,6 +52,15 @@ impl<'a> NlAttrs<'a> {
         let data = &body[..len - 4];
         Ok(Some(NlAttr { header, data }))
     }
+
+    // The same, with the answer as an iterator has it. Asked again at a fault, it gives that fault again; a `for`, and whatever else goes
+    // by the Iterator below, ends behind it.
+    pub fn next(&mut self) -> Option<Result<NlAttr<'a>, AttributeFault>>
+        ensures step { attribute_step self.old.rest.now ≡ seen attribute_of result self.new.rest.now }
+        ensures left { self.new.rest.now ≡ left_by self.old.rest.now (attribute_step self.old.rest.now) }
+    {
+        self.step().transpose()
+    }
 }
 
 impl<'a> Iterator for NlAttrs<'a> {

@@ -87,10 +87,13 @@ impl<'a> Recorded<'a> {
             None => return Err(Misread::NoReply),
         };
         let text = tokens.next().ok_or(Misread::NoReply)?;
-        let datagrams = text
-            .split(',')
-            .map(|part| datagram(heap, part))
-            .try_collect(heap)?;
+        // no `try_collect`: it extends the list once for each datagram, which a reply of a million of them feels
+        let mut datagrams = Vec::new(heap);
+        text.split(',').try_for_each(|part| {
+            datagrams
+                .push(datagram(heap, part)?)
+                .map_err(|_| Misread::NoMemory)
+        })?;
         Ok(Recorded { awaited, datagrams })
     }
 

@@ -1,5 +1,7 @@
-ghost use Rattle.std.specs.Prelude.{◌≡◌, ◌≤◌, ◌⊎◌, IfErr, IfOk, IfSome, IsErr};
-ghost use Rattle.hex.specs.Hex.{decode_of};
+ghost use Rattle.std.specs.Prelude.{◌≡◌, ◌^◌, ◌≤◌, ◌⊎◌, ◌↔◌, IfErr, IfOk, IfSome, IsErr, IsTrue};
+ghost use Rattle.std.specs.List.{AllPass};
+ghost use Rattle.hex.specs.Hex.{decode_of, is_hex_digit};
+ghost use Rattle.rehearse.specs.Numerals.{ReadAs};
 ghost use Rattle.rehearse.specs.declared.script.Misread.TheVariants.{NoMemory};
 
 use crate::show::Brief;
@@ -281,6 +283,7 @@ impl fmt::Display for Misread<'_> {
 // A number in digits of this radix, with no sign.
 fn number_in(text: &str, radix: u32) -> Option<u32>
     requires { (2 ≤ radix) × (radix ≤ 36) }
+    ensures { ReadAs radix (2 ^ 32) text.now result }
 {
     if text.starts_with('+') {
         return None;
@@ -293,7 +296,9 @@ fn number(text: &str) -> Option<u32> {
 }
 
 // Half of a handle: hexadecimal digits, of a number below 65536.
-fn half_of(text: &str) -> Option<u16> {
+fn half_of(text: &str) -> Option<u16>
+    ensures { ReadAs 16 (2 ^ 16) text.now result }
+{
     u16::try_from(number_in(text, 16)?).ok()
 }
 
@@ -328,19 +333,30 @@ enum Name<'a> {
     Hex(&'a str),
 }
 
-// The bytes of a text in hexadecimal, or what is to be said of a text that is none.
+// Whether each byte is a digit in hexadecimal.
+fn is_hex(text: &str) -> bool
+    ensures { IsTrue result ↔ AllPass is_hex_digit text.now }
+{
+    text.bytes().all(|byte| byte.is_ascii_hexdigit())
+}
+
+// The bytes of a text in hexadecimal, or what is to be said of a text that is none, also where there would be no memory for it.
 pub(crate) fn hex_bytes<'a>(
     heap: Global,
     text: &str,
     otherwise: Misread<'a>,
 ) -> Result<Vec<u8>, Misread<'a>>
     ensures bytes { IfOk result (λ bytes. decode_of text.now ≡ Ok bytes.items) }
-    ensures refused { IfErr result (λ e. (e ≡ NoMemory) ⊎ IsErr (decode_of text.now)) }
+    ensures refused { IfErr result (λ e. ((e ≡ NoMemory) × AllPass is_hex_digit text.now) ⊎ ((e ≡ otherwise.entry) × IsErr (decode_of text.now))) }
 {
     // no `map_err`: tried, and through its closure the clause `refused` stayed open
     match hex::decode(heap, text) {
         Ok(bytes) => Ok(bytes),
-        Err(FromHexError::OutOfMemory) => Err(Misread::NoMemory),
+        Err(FromHexError::OutOfMemory) => Err(if is_hex(text) {
+            Misread::NoMemory
+        } else {
+            otherwise
+        }),
         Err(_) => Err(otherwise),
     }
 }

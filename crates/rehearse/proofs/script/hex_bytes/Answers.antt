@@ -1,0 +1,11 @@
+use Rattle.std.proofs.Common.{inl, inr, arith}
+use Rattle.rehearse.proofs.Hexing.{not_hex}
+use Rattle.rehearse.proofs.script.hex_bytes.Goals.{then-is_hex, else-is_hex}
+use Rattle.rehearse.proofs.script.hex_bytes.Goals as goal
+
+pub returns-after-is_hex-clause-refused : goal.returns-after-is_hex-clause-refused
+returns-after-is_hex-clause-refused c =
+    elim c.if-is_hex.branch [
+      | then-is_hex w ↦ inl (w.result-is, c.is_hex.ensures.0 w.if-is_hex.true)
+      | else-is_hex w ↦ inr (w.result-is, not_hex c.args.text.now (λ all. let t = c.is_hex.ensures.1 all in let f = w.if-is_hex.false in grind arith))
+    ]
