@@ -1,5 +1,6 @@
 -- The bpf filter of a key. Assumes nothing.
-use Rattle.std.proofs.Common.{◌≡◌, Bool, true, false, cond, not, ◌&&◌, ◌||◌, List, [], ◌∷◌, Some, None, Option, refl, ap, ◌∙◌, arith}
+use Rattle.std.proofs.Common.{Bor, ◌≡◌, Bool, true, false, cond, not, ◌&&◌, ◌||◌, List, [], ◌∷◌, Some, None, Option, map, refl, ap, ◌∙◌, arith}
+use Rattle.std.specs.List.{find}
 use Rattle.std.specs.Option.{is_some, option_map}
 use Rattle.std.specs.Str.{bytes_eq}
 use Rattle.requests.specs.Asks.{Key}
@@ -41,6 +42,21 @@ bpf_there (Some g) f e = step (bytes_eq g.kind bpf) refl e
     step : (b : Bool) → bytes_eq g.kind bpf ≡ b → cond b (Some g) None ≡ Some f → (Some g ≡ Some f) × (bytes_eq f.kind bpf ≡ true)
     step true h n = let e : f ≡ g = grind arith in (n, ap (λ (x : Filter). bytes_eq x.kind bpf) e ∙ h)
     step false h n = grind arith
+
+-- one that is lent, by what it stands for
+pub lent_mapped : {X Y : Type 0} (f : X → Y) (o : Option (Bor X)) → option_map (λ x. f x.now) o ≡ option_map f (option_map (λ x. x.now) o)
+lent_mapped f None = refl
+lent_mapped f (Some x) = refl
+
+-- the first that passes, by what it stands for
+pub found_mapped : {X Y : Type 0} (f : X → Y) (p : Y → Bool) (xs : List X) → option_map f (find (λ x. p (f x)) xs) ≡ find p (map f xs)
+found_mapped f p [] = refl
+found_mapped f p (x ∷ xs) = step (p (f x)) (found_mapped f p xs)
+  where
+    step : (b : Bool) → option_map f (find (λ x. p (f x)) xs) ≡ find p (map f xs) →
+        option_map f (cond b (Some x) (find (λ x. p (f x)) xs)) ≡ cond b (Some (f x)) (find p (map f xs))
+    step true h = refl
+    step false h = h
 
 pub mapped_some : {X Y : Type 0} (f : X → Y) (o : Option X) → is_some o ≡ is_some (option_map f o)
 mapped_some f None = refl

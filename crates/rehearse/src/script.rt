@@ -1,4 +1,4 @@
-ghost use Rattle.std.specs.Prelude.{◌≡◌, ◌^◌, ◌≤◌, ◌⊎◌, ◌↔◌, IfErr, IfOk, IfSome, IsErr, IsTrue};
+ghost use Rattle.std.specs.Prelude.{◌≡◌, ◌^◌, ◌≤◌, ◌⊎◌, ◌↔◌, IfErr, IfOk, IfSome, IsErr, IsOk, IsTrue};
 ghost use Rattle.std.specs.List.{AllPass};
 ghost use Rattle.hex.specs.Hex.{decode_of, is_hex_digit};
 ghost use Rattle.rehearse.specs.Numerals.{ReadAs};
@@ -291,7 +291,9 @@ fn number_in(text: &str, radix: u32) -> Option<u32>
     u32::from_str_radix(text, radix).ok()
 }
 
-fn number(text: &str) -> Option<u32> {
+fn number(text: &str) -> Option<u32>
+    ensures { ReadAs 10 (2 ^ 32) text.now result }
+{
     number_in(text, 10)
 }
 
@@ -347,7 +349,7 @@ pub(crate) fn hex_bytes<'a>(
     otherwise: Misread<'a>,
 ) -> Result<Vec<u8>, Misread<'a>>
     ensures bytes { IfOk result (λ bytes. decode_of text.now ≡ Ok bytes.items) }
-    ensures refused { IfErr result (λ e. ((e ≡ NoMemory) × AllPass is_hex_digit text.now) ⊎ ((e ≡ otherwise.entry) × IsErr (decode_of text.now))) }
+    ensures refused { IfErr result (λ e. ((e ≡ NoMemory) × IsOk (decode_of text.now)) ⊎ ((e ≡ otherwise.entry) × IsErr (decode_of text.now))) }
 {
     // no `map_err`: tried, and through its closure the clause `refused` stayed open
     match hex::decode(heap, text) {

@@ -13,6 +13,7 @@ use crate::text::Text;
 use keyed::row::Keyed;
 use requests::filter::Filter;
 use requests::handle::TcHandle;
+use requests::name::Name;
 use requests::request::Key;
 
 const BPF: &[u8] = b"bpf";
@@ -117,13 +118,18 @@ impl Row {
         self.kind.bytes() == BPF
     }
 
-    // The same filter under another name, or none where that cannot be.
-    pub(crate) fn renamed(&self, name: &[u8]) -> Option<Row>
-        ensures { option_map meaning result ≡ standing (named (meaning self.now) name.now) }
+    // The same filter under another name, or none where that cannot be: only bpf filters have names. What stays was
+    // checked when the row was made, and what comes when the name was.
+    pub(crate) fn renamed(&self, name: Name<'_>) -> Option<Row>
+        ensures { option_map meaning result ≡ standing (named (meaning self.now) name.entry.bytes.now) }
     {
-        Row::new(Filter {
-            name: Some(name),
-            ..self.filter()
+        if !self.is_bpf() {
+            return None;
+        }
+        Some(Row {
+            key: self.key,
+            kind: self.kind,
+            name: Some(Text::of(name.bytes())),
         })
     }
 }

@@ -4,6 +4,7 @@ ghost use Rattle.std.specs.Option.{option_map};
 ghost use Rattle.requests.specs.Asks.{key_of};
 ghost use Rattle.requests.specs.Handles.{bits_of};
 ghost use Rattle.hosts.specs.Rules.{without};
+ghost use Rattle.keyed.specs.Rows.{found};
 ghost use Rattle.filters.specs.Rows.{meaning};
 ghost use Rattle.filters.specs.Keys.{taken, is_bpf, bpf_of, lowest_free, refusal_of, admitted, added, renaming, after_renaming, removing, with_handle};
 ghost use Rattle.filters.specs.Held.{held};
@@ -11,9 +12,10 @@ ghost use Rattle.filters.specs.Held.{held};
 use crate::refusal::Refusal;
 use crate::row::Row;
 use crate::store::Filters;
+use keyed::row::Keyed;
 use keyed::table::{Refused, Table};
 use requests::handle::TcHandle;
-use requests::name::check_name;
+use requests::name::Name;
 use requests::request::Key;
 
 impl From<Refused> for Refusal {
@@ -70,11 +72,18 @@ impl Filters {
         self.bpf(key).is_some()
     }
 
-    // The bpf filter of this key, if there is one.
-    fn bpf(&self, key: Key) -> Option<Row>
-        ensures { option_map meaning result ≡ bpf_of (key_of key) (held self.now) }
+    // The row of this key, if there is one. It is lent: `Table::find` copies it out, and a row is large.
+    fn row(&self, key: Key) -> Option<&Row>
+        ensures { option_map (λ r. meaning r.now) result ≡ found (λ f. f.key) (key_of key) (held self.now) }
     {
-        self.table.find(key).filter(|row| row.is_bpf())
+        self.rows().iter().find(|row| row.has_key(key))
+    }
+
+    // That row, if it is a bpf filter's.
+    fn bpf(&self, key: Key) -> Option<&Row>
+        ensures { option_map (λ r. meaning r.now) result ≡ bpf_of (key_of key) (held self.now) }
+    {
+        self.row(key).filter(|row| row.is_bpf())
     }
 
     // Whether one more may stand under this key.
@@ -119,7 +128,7 @@ impl Filters {
         ensures answer { result ≡ renaming (key_of key) name.now (held self.old) }
         ensures after { held self.new ≡ after_renaming result (key_of key) name.now (held self.old) }
     {
-        check_name(name).map_err(|_| Refusal::Invalid)?;
+        let name = Name::new(name).map_err(|_| Refusal::Invalid)?;
         let row = self.bpf(key).ok_or(Refusal::NoEntry)?;
         let named = row.renamed(name).unwrap();
         self.table.replace(named);

@@ -19,7 +19,8 @@ impl Text {
         requires { Short (option_copied text) }
         ensures { option_map said result ≡ option_copied text.entry }
     {
-        text.map(Text::of)
+        // no `map`: it costs a second filling of a text's room
+        Some(Text::of(text?))
     }
 
     pub fn bytes(&self) -> &[u8]

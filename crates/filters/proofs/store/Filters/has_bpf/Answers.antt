@@ -9,5 +9,5 @@ use Rattle.filters.proofs.store.Filters.has_bpf.Goals as goal
 
 pub returns : goal.returns
 returns c =
-    c.is_some.ensures ∙ mapped_some meaning c.bpf.result ∙ ap (λ (o : Option Filter). is_some o) c.bpf.ensures
+    c.is_some.ensures ∙ mapped_some (λ r. meaning r.now) c.bpf.result ∙ ap (λ (o : Option Filter). is_some o) c.bpf.ensures
     ∙ is_bpf_of (key_of c.args.key) (held c.args.self.now) c.args.self.now.table.differ
