@@ -1,5 +1,5 @@
 -- The bytes that are written are those of the replies, and they have room. Assumes nothing.
-use Rattle.std.proofs.Common.{◌≡◌, ℕ, ◌+◌, ◌≤◌, Bool, true, cond, leb, List, [], ◌∷◌, ◌++◌, length, take, drop, replicate, ℤ, None, Ok, Option, Result, sym, ap, ◌∙◌, arith}
+use Rattle.std.proofs.Common.{◌≡◌, ℕ, ◌+◌, ◌≤◌, Bool, true, cond, leb, List, [], ◌∷◌, ◌++◌, length, take, drop, replicate, ℤ, None, Ok, Err, Option, Result, sym, ap, ◌∙◌, arith}
 use Rattle.std.proofs.lemmas.List.{take_at}
 use Rattle.std.proofs.lemmas.Bool.Decides.{nat_tests}
 use Rattle.records.specs.Fields.{nlmsghdr_of, nlmsghdr_bytes, nlmsgerr_bytes}
@@ -73,6 +73,9 @@ done_room = (omega (arith, done_long), omega (arith, done_long))
 
 pub told_room : (flags : ℕ) (f : Filter) → Stands f → (16 ≤ length (told_bytes flags f)) × (length (told_bytes flags f) ≤ 384)
 told_room flags f s = let l = told_long flags f s in (omega (arith, l.0), omega (arith, l.1))
+
+pub ok_not_err : {X E : Type 0} (r : Result X E) (x : X) (e : E) → r ≡ Ok x → r ≡ Err e → ⊥
+ok_not_err r x e p q = let z : ◌≡◌ {A = ℕ} 0 1 = cc in omega arith
 
 pub ok_same : {X E : Type 0} (n m : X) → ◌≡◌ {A = Result X E} (Ok n) (Ok m) → n ≡ m
 ok_same n m e = cc

@@ -19,6 +19,10 @@ module _ {H T : Type 0} {did : H → Event → H → Type 0} {fed : T → List �
   here : {c : Close} {t : State T} {k : H} {n : ℕ} {b : List ℕ} → Collected did fed (length b₀) s₀ h₀ b₀ c t (n + 0) k b → Collected did fed (length b₀) s₀ h₀ b₀ c t n k b
   here x = record { trace = x.trace; laid = x.laid; count = omega (arith, x.count) }
 
+  -- before the first
+  pub start : Leads did fed s₀ h₀ b₀ 0 s₀ h₀ b₀
+  start = record { on = λ c t k r. record { trace = r; laid = refl; count = omega arith } }
+
   module _ {i : ℕ} {s : State T} {h : H} {b : List ℕ} (l : Leads did fed s₀ h₀ b₀ i s h b) where
     pub one_more : (d : List ℕ) {j : H} {u : State T} {b' : List ℕ} → length b ≡ length b₀ → did h (received (length b) (datagram d)) j → b' ≡ laid b (datagram d) →
         u ≡ took fed s d → over s.stage ≡ false → i < 4096 → Leads did fed s₀ h₀ b₀ (i + 1) u j b'

@@ -30,6 +30,9 @@ clash b p q = absurd (both_ways b q p)
 pub same_key_lem : (k l : Key) → same_key k l ≡ true → k ≡ l
 same_key_lem k l e = grind (arith, nat_tests)
 
+pub key_same : (k : Key) → same_key k k ≡ true
+key_same k = grind (arith, nat_tests)
+
 pub other_key : (k l : Key) → same_key k l ≡ false → same_key l k ≡ false
 other_key k l e = grind (arith, nat_tests)
 
